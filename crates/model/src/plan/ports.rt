@@ -1,0 +1,1 @@
+//! The ports of a plan's processes: its links by rising number.
