@@ -1,0 +1,7 @@
+//! The kernel: runs of a plan over any links, cargo and kind of process.
+mod asking;
+mod clock;
+mod marks;
+mod nulls;
+mod room;
+mod safety;
