@@ -1,3 +1,4 @@
 pub mod Scan
 pub mod Telling
 pub mod Words
+pub mod Selected

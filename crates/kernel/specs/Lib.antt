@@ -1,3 +1,4 @@
 pub mod Places
 pub mod Searching
 pub mod Bits
+pub mod Judging

@@ -4,4 +4,6 @@ mod clock;
 mod marks;
 mod nulls;
 mod room;
+mod routes;
 mod safety;
+mod sending;
