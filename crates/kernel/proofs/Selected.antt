@@ -10,9 +10,9 @@ use lib.ListN.{length, getD}
 use Rattle.std.specs.Iters.{counting}
 use Rattle.std.specs.Of.Vec.{vec-items, vec-len}
 use Rattle.std.specs.declared.vec.Vec.{Vec}
-use Rattle.std.proofs.shelf.Lists.{append-nil, length-push, getD-push, getD-append-left, getD-map, map-push}
+use Rattle.std.proofs.shelf.Lists.{append-nil, length-push, getD-push, getD-append-left, getD-map, length-map, map-push}
 use Rattle.std.proofs.shelf.Tests.{cases-lt, cases-eq, eq-eqb, ne-eqb, true≢false}
-use Rattle.std.proofs.shelf.Counted.{getD-map-counting, map-counting-more}
+use Rattle.std.proofs.shelf.Counted.{getD-map-counting, length-map-counting, map-counting-more}
 use Rattle.model.specs.Lists.{numbers-below, place-of}
 use Rattle.kernel.specs.Places.{Below, Rising}
 
@@ -93,6 +93,11 @@ module _ {Z : Type 0} (f : ℕ → List ℕ) where
   row vs n p v table l h is =
       ap vec-items is ∙ sym (getD-map vec-items (vec-items vs) p v [] (omega (arith, vs .ok .0))) ∙ ap (λ rows. getD rows p []) table
       ∙ getD-map-counting f 0 n p p [] l (omega arith)
+
+  -- The table has n rows.
+  pub rows : (vs : Vec (Vec ℕ Z) Z) (n : ℕ) → map vec-items (vec-items vs) ≡ map f (counting 0 n) → vec-len vs ≡ n
+  rows vs n table =
+      vs .ok .0 ∙ sym (length-map (vec-items vs) (vec-items {X = ℕ} {Z = Z})) ∙ ap length table ∙ length-map-counting f 0 n
 
   -- One row more.
   pub row-more : (vs ws : List (Vec ℕ Z)) (v : Vec ℕ Z) (p : ℕ) → map vec-items vs ≡ map f (counting 0 p) → ws ≡ vs ++ (v ∷ [])

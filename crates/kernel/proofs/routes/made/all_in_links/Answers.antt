@@ -15,4 +15,7 @@ loop-process-again c =
       (c .in-Continue-in-links .ensures tt)
 
 pub returns : need.returns
-returns c = ?
+returns c =
+    let ended : c .loop-process .process ≡ c .args .plan .now .processes =
+      omega (arith, c .loop-process-test .left, c .loop-process .kept .process-end, c .processes-process-end .ensures) in
+    c .loop-process .inv ∙ ap (λ n. map (in-links (shape-of (c .args .plan .now))) (counting 0 n)) ended
