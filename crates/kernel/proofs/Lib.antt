@@ -2,3 +2,5 @@ pub mod Scan
 pub mod Telling
 pub mod Words
 pub mod Selected
+pub mod ByLink
+pub mod Judged

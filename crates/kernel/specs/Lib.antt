@@ -2,3 +2,5 @@ pub mod Places
 pub mod Searching
 pub mod Bits
 pub mod Judging
+pub mod OfRun
+pub mod Stages

@@ -5,5 +5,6 @@ mod marks;
 mod nulls;
 mod room;
 mod routes;
+pub mod run;
 mod safety;
 mod sending;

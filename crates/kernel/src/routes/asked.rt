@@ -14,6 +14,14 @@ impl Routes {
         &self.plan
     }
 
+    // The horizon, with its limit, so that sums with it fit.
+    pub(crate) fn horizon(&self) -> u32
+        ensures is { λ r. ⌜ r ≡ now (self .entry) .plan .horizon ⌝ }
+        ensures near { λ r. ⌜ r ≤ 1000000 ⌝ }
+    {
+        self.plan.horizon()
+    }
+
     // The plan back.
     pub(crate) fn into_plan(self) -> Plan
         ensures { λ r. ⌜ r ≡ self .plan ⌝ }
