@@ -4,3 +4,5 @@ pub mod Words
 pub mod Selected
 pub mod ByLink
 pub mod Judged
+pub mod Standing
+pub mod Handled

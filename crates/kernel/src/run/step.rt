@@ -6,11 +6,12 @@ ghost use Rattle.std.specs.Of.Vec.{vec-items};
 ghost use Rattle.std.specs.declared.option.Option.the-variants.{Some};
 ghost use Rattle.model.specs.Lists.{at};
 ghost use Rattle.model.specs.Made.{shape-of};
-ghost use Rattle.simulation.specs.Step.{Closes};
+ghost use Rattle.simulation.specs.Step.{Closes, Step};
 ghost use Rattle.simulation.specs.Programs.{program-of};
 ghost use Rattle.kernel.specs.OfRun.{view-of};
 ghost use Rattle.kernel.specs.Stages.{Taking, Finds};
 use super::Run;
+use crate::asking::as_many;
 use crate::clock::process_clock;
 use crate::nulls::send_nulls;
 use crate::room::lowest_full;
@@ -18,6 +19,7 @@ use crate::safety::Safe;
 use crate::safety::safe_event;
 use crate::sending::judge;
 use crate::sending::pass_on;
+use model::answer::Stepped;
 use model::cargo::Cargo;
 use model::event::Event;
 use model::links::Links;
@@ -63,5 +65,41 @@ impl<C: Cargo, P: Process<C>, L: Links<C>> Run<C, P, L> {
                 Ok(())
             }
         }
+    }
+
+    // Ends a step: nulls by the clock as it is now, and the mark.
+    fn close(&mut self, process: usize, lookahead: u32) -> u32
+        requires process { ⌜ process < now self .routes .plan .processes ⌝ }
+        requires links { ⌜ L·Links .meaning (now self .links) .count ≡ length (shape-of (now self .routes .plan) .links) ⌝ }
+        requires near { ⌜ lookahead ≤ 10000 ⌝ }
+        ensures closes { λ r. ⌜ Closes (view-of (L·Links .meaning) (now (self .entry))) process lookahead (L·Links .meaning (now (self .entry) .links)) r (view-of (L·Links .meaning) (now (self .exit))) ⌝ }
+        ensures processes { λ _. ⌜ vec-items (now (self .exit) .processes) ≡ vec-items (now (self .entry) .processes) ⌝ }
+        ensures log { λ _. ⌜ vec-items (now (self .exit) .log) ≡ vec-items (now (self .entry) .log) ⌝ }
+    {
+        let clock = process_clock(&self.links, self.routes.ins(process), self.routes.horizon());
+        let nulls = send_nulls(&mut self.links, self.routes.outs(process), clock + lookahead);
+        self.marks.mark(process);
+        nulls
+    }
+
+    // The stages of a step, in their order.
+    pub(crate) fn once(&mut self, process: usize) -> Result<Stepped<C>, Refusal>
+        ensures { λ r. ⌜ Step (program-of C·Cargo P·Process) (view-of (L·Links .meaning) (now (self .entry))) process r (view-of (L·Links .meaning) (now (self .exit))) ⌝ }
+    {
+        let plan = self.routes.plan();
+        if process >= plan.processes() || !as_many(&self.links, plan.link_count()) {
+            return Err(Refusal::NoSuch);
+        }
+        let state = self.processes[process];
+        let lookahead = state.lookahead();
+        let taken = match self.safe(process) {
+            Some(safe) => {
+                self.take(process, state, safe)?;
+                Some(safe.event)
+            }
+            None => None,
+        };
+        let nulls = self.close(process, lookahead);
+        Ok(Stepped { taken, nulls })
     }
 }
