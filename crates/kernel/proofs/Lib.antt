@@ -6,3 +6,4 @@ pub mod ByLink
 pub mod Judged
 pub mod Standing
 pub mod Handled
+pub mod Assembled

@@ -8,7 +8,7 @@ use lib.ListN.{length}
 use borrow.Author.Needs.{needs}
 use Rattle.std.specs.Of.Vec.{vec-items}
 use Rattle.std.specs.declared.option.Option.the-variants.{Some}
-use Rattle.std.proofs.shelf.Tests.{and-from, eq-eqb, ne-eqb, lt-ltb, le-ltb, le-leb, and-left, and-right}
+use Rattle.std.proofs.shelf.Tests.{and-from, and-parts, eq-eqb, eqb-true, lt-ltb, ltb-true, le-leb}
 use Rattle.model.specs.Lists.{at}
 use Rattle.model.specs.Made.{shape-of}
 use Rattle.model.specs.Pile.{Pile}
@@ -16,6 +16,12 @@ use Rattle.simulation.specs.View.{View, has, as-prepared}
 use Rattle.simulation.specs.Step.{Ready}
 use Rattle.kernel.specs.declared.run.Run.{Run}
 use Rattle.kernel.specs.OfRun.{view-of}
+
+and-turned : (a b : Bool) → (a && b) ≡ (b && a)
+and-turned true true = refl
+and-turned true false = refl
+and-turned false true = refl
+and-turned false false = refl
 
 module _ {C P L : Type 0} (meaning : L → Pile C) (r : Run C P L) where
   abbrev v : View C P
@@ -41,9 +47,11 @@ module _ {C P L : Type 0} (meaning : L → Pile C) (r : Run C P L) where
   pub ready : (p : ℕ) (s : P) → p < v .plan .processes → v .links .count ≡ length (v .plan .links) → at (v .processes) p ≡ Some s → Ready v p s
   ready p s l e is = record { there = there p l e; state = is }
 
-  -- No such process, or other links than planned.
-  pub no-process : (p : ℕ) → v .plan .processes ≤ p → has v p ≡ false
-  no-process p l = and-right _ _ (le-ltb p (v .plan .processes) l)
+  -- What the test of a process says.
+  pub has-is : (p : ℕ) → has v p ≡ (ltb p (v .plan .processes) && eqb (v .links .count) (length (v .plan .links)))
+  has-is p = ap (λ b. b && ltb p (v .plan .processes)) prepared-is ∙ and-turned (eqb (v .links .count) (length (v .plan .links))) (ltb p (v .plan .processes))
 
-  pub other-links : (p : ℕ) → eqb (v .links .count) (length (v .plan .links)) ≡ false → has v p ≡ false
-  other-links p e = and-left _ _ (prepared-is ∙ e)
+  pub has-both : (p : ℕ) → has v p ≡ true → (p < v .plan .processes) × (v .links .count ≡ length (v .plan .links))
+  has-both p e =
+      let both = and-parts (ltb p (v .plan .processes)) (eqb (v .links .count) (length (v .plan .links))) (sym (has-is p) ∙ e) in
+      (ltb-true p (v .plan .processes) (both .0), eqb-true (v .links .count) (length (v .plan .links)) (both .1))

@@ -6,6 +6,7 @@ ghost use Rattle.std.specs.Of.Vec.{vec-items};
 ghost use Rattle.std.specs.declared.option.Option.the-variants.{Some};
 ghost use Rattle.model.specs.Lists.{at};
 ghost use Rattle.model.specs.Made.{shape-of};
+ghost use Rattle.simulation.specs.View.{has};
 ghost use Rattle.simulation.specs.Step.{Closes, Step};
 ghost use Rattle.simulation.specs.Programs.{program-of};
 ghost use Rattle.kernel.specs.OfRun.{view-of};
@@ -28,6 +29,14 @@ use model::record::Record;
 use model::refusal::Refusal;
 
 impl<C: Cargo, P: Process<C>, L: Links<C>> Run<C, P, L> {
+    // Whether there is such a process, over as many links as prepared.
+    pub(super) fn has(&self, process: usize) -> bool
+        ensures { λ r. ⌜ r ≡ has (view-of (L·Links .meaning) (now (self .entry))) process ⌝ }
+    {
+        let plan = self.routes.plan();
+        process < plan.processes() && as_many(&self.links, plan.link_count())
+    }
+
     // The safe event of a process.
     fn safe(&self, process: usize) -> Option<Safe<C>>
         requires process { ⌜ process < now self .routes .plan .processes ⌝ }
@@ -83,11 +92,10 @@ impl<C: Cargo, P: Process<C>, L: Links<C>> Run<C, P, L> {
     }
 
     // The stages of a step, in their order.
-    pub(crate) fn once(&mut self, process: usize) -> Result<Stepped<C>, Refusal>
+    pub(super) fn once(&mut self, process: usize) -> Result<Stepped<C>, Refusal>
         ensures { λ r. ⌜ Step (program-of C·Cargo P·Process) (view-of (L·Links .meaning) (now (self .entry))) process r (view-of (L·Links .meaning) (now (self .exit))) ⌝ }
     {
-        let plan = self.routes.plan();
-        if process >= plan.processes() || !as_many(&self.links, plan.link_count()) {
+        if !self.has(process) {
             return Err(Refusal::NoSuch);
         }
         let state = self.processes[process];
