@@ -7,3 +7,5 @@ pub mod Judged
 pub mod Standing
 pub mod Handled
 pub mod Assembled
+pub mod Called
+pub mod Recorded

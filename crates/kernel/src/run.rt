@@ -10,6 +10,8 @@ use model::process::Process;
 use model::record::Record;
 use std::marker::PhantomData;
 
+mod passes;
+mod questions;
 mod step;
 
 // Where the processes, links and log of a run stand, who has stepped in this round, and how many rounds are over.
