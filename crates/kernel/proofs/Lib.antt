@@ -9,3 +9,4 @@ pub mod Handled
 pub mod Assembled
 pub mod Called
 pub mod Recorded
+pub mod FromOutside

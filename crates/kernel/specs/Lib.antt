@@ -4,3 +4,4 @@ pub mod Bits
 pub mod Judging
 pub mod OfRun
 pub mod Stages
+pub mod Preparing

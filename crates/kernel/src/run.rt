@@ -6,11 +6,14 @@ use crate::marks::Marks;
 use crate::routes::Routes;
 use model::cargo::Cargo;
 use model::links::Links;
+use model::plan::Plan;
 use model::process::Process;
 use model::record::Record;
+use model::refusal::Unprepared;
 use std::marker::PhantomData;
 
 mod passes;
+mod prepare;
 mod questions;
 mod step;
 
@@ -28,4 +31,13 @@ pub struct Run<C: Cargo, P: Process<C>, L: Links<C>> {
     ghost counted: { marks .processes ≡ routes .plan .processes },
     ghost logged: { vec-len log ≤ room },
     ghost reserved: { room ≤ vec-cap log },
+}
+
+// What prepare gives back where it refuses: why, and the parts as they then stand.
+#[derive(Drop)]
+pub struct NotPrepared<P, L> {
+    pub why: Unprepared,
+    pub plan: Plan,
+    pub processes: Vec<P>,
+    pub links: L,
 }

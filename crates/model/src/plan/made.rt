@@ -1,5 +1,6 @@
 //! How a plan is made, and what it says.
 ghost use mathlib.Core.Path.{_≡_};
+ghost use Prim.Native.Nat.{_≤_};
 ghost use lib.Dec.{leb};
 ghost use Rattle.std.specs.Of.Vec.{vec-items};
 ghost use lib.ListN.{length};
@@ -63,13 +64,16 @@ impl Plan {
     }
 
     pub fn horizon(&self) -> u32
-        ensures { λ r. ⌜ r ≡ shape-of (now (self .entry)) .horizon ⌝ }
+        ensures is { λ r. ⌜ r ≡ shape-of (now (self .entry)) .horizon ⌝ }
+        ensures near { λ r. ⌜ r ≤ 1000000 ⌝ }
     {
         self.horizon
     }
 
+    // How many processes there are.
     pub fn processes(&self) -> usize
-        ensures { λ r. ⌜ r ≡ shape-of (now (self .entry)) .processes ⌝ }
+        ensures is { λ r. ⌜ r ≡ shape-of (now (self .entry)) .processes ⌝ }
+        ensures few { λ r. ⌜ r ≤ 64 ⌝ }
     {
         self.processes
     }

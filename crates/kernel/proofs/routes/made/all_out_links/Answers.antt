@@ -17,5 +17,5 @@ loop-process-again c =
 pub returns : need.returns
 returns c =
     let ended : c .loop-process .process ≡ c .args .plan .now .processes =
-      omega (arith, c .loop-process-test .left, c .loop-process .kept .process-end, c .processes-process-end .ensures) in
+      omega (arith, c .loop-process-test .left, c .loop-process .kept .process-end, c .processes-process-end .ensures .is) in
     c .loop-process .inv ∙ ap (λ n. map (out-links (shape-of (c .args .plan .now))) (counting 0 n)) ended

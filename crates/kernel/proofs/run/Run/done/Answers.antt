@@ -17,7 +17,7 @@ returns-then-as-many g c =
     let m = g .L·Links .meaning in
     let shape = shape-of (s .routes .plan) in
     let test : ℕ → Bool = λ p. eqb (clock shape (m (s .links)) p) (shape .horizon) in
-    let planned = c .processes .ensures ∙ ap (λ plan. plan .processes) (c .plan-plan .ensures) in
+    let planned = c .processes .ensures .is ∙ ap (λ plan. plan .processes) (c .plan-plan .ensures) in
     let many = sym (c .if-as-many .taken) ∙ c .as-many .ensures
       ∙ ap (eqb (m (s .links) .count)) (c .link-count .ensures ∙ ap (λ plan. length (shape-of plan .links)) (c .plan-plan .ensures)) in
     called _ _ _ _ _

@@ -32,7 +32,7 @@ returns g c =
     let m = g .L·Links .meaning in
     let G = program-of (g .C·Cargo) (g .P·Process) in
     let r = c .args .self .now in
-    let planned = c .processes-processes .ensures ∙ ap (λ plan. plan .processes) (c .plan .ensures) in
+    let planned = c .processes-processes .ensures .is ∙ ap (λ plan. plan .processes) (c .plan .ensures) in
     let ended : c .loop-process .process ≡ r .routes .plan .processes =
       omega (arith, c .loop-process-test .left, c .loop-process .kept .process-end, planned) in
     subst (λ n. Pass G (view-of m r) n (c .loop-process .all) (view-of m (c .loop-process .self))) ended (c .loop-process .inv)
