@@ -1,22 +1,18 @@
--- What an exit is made of, and what it does.
-use mathlib.Core.Bool.{false}
-use mathlib.Core.Path.{_≡_}
+-- Exits: what they are made of, and their rule.
 use Prim.Native.Nat.{ℕ}
 use Rattle.std.specs.declared.option.Option.{Option}
-use Rattle.std.specs.declared.option.Option.the-variants.{None, Some}
+use Rattle.std.specs.declared.option.Option.the-variants.{None}
 use Rattle.model.specs.declared.sending.Sending.{Sending}
 use Rattle.exit.specs.declared.Exit.{Exit}
-use Rattle.exit.specs.Limits.{between}
+use Rattle.exit.specs.Limits.{between, made-if}
 
--- The lookahead of an exit.
+-- The exit of a lookahead from 1 to 10,000. There is no other.
+abbrev pub exit-of : ℕ → Option Exit
+exit-of lookahead = made-if (between 1 10000 lookahead) (λ ok. record { lookahead = lookahead; within = ok })
+
 abbrev pub lookahead-of : Exit → ℕ
 lookahead-of e = e .lookahead
 
--- An exit is made of a lookahead from 1 to 10,000, and of no other.
-abbrev pub Made : ℕ → Option Exit → Type 0
-Made lookahead None = between 1 10000 lookahead ≡ false
-Made lookahead (Some e) = lookahead-of e ≡ lookahead
-
--- It stays as it is, and sends nothing.
+-- The rule: it stays as it is, and sends nothing.
 abbrev pub leaves : {C : Type 0} → Exit → ℕ → ℕ → C → Exit × Option (Sending C)
 leaves e port time cargo = (e, None)
