@@ -11,5 +11,5 @@ pub mod process;
 #[derive(Clone, Copy, PartialEq, Eq, Debug)]
 pub struct Exit {
     lookahead: u32,
-    ghost within: { between 1 10000 lookahead ≡ true },
+    ghost limits: { between 1 10000 lookahead ≡ true },
 }

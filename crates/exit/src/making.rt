@@ -1,6 +1,6 @@
 //! How an exit is made, and what it is made of.
 ghost use mathlib.Core.Path.{_≡_};
-ghost use Rattle.exit.specs.Leaving.{exit-of};
+ghost use Rattle.exit.specs.Exits.{exit-of};
 use crate::Exit;
 use crate::limits::between;
 

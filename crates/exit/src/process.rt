@@ -1,14 +1,14 @@
 //! What an exit does.
-ghost use Rattle.exit.specs.Leaving.{lookahead-of, leaves};
+ghost use Rattle.exit.specs.Exits.{exit-lookahead, exit-rule};
 use crate::Exit;
 use model::cargo::Cargo;
 use model::process::Process;
 use model::sending::Sending;
 
 pub impl<C: Cargo> Process<C> for Exit as ExitProcess {
-    ghost lookahead = { lookahead-of };
+    ghost lookahead = { exit-lookahead };
 
-    ghost rule = { leaves };
+    ghost rule = { exit-rule };
 
     fn lookahead(&self) -> u32 {
         self.lookahead

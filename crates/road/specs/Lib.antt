@@ -1,5 +1,5 @@
+pub mod Limits
 pub mod Routes
-pub mod Onward
 pub mod Vehicles
 pub mod Starting
 pub mod Signals

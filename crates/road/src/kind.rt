@@ -1,5 +1,5 @@
 //! The kinds of process on a road plan.
-ghost use Rattle.road.specs.Kinds.{lookahead-in, handled-by};
+ghost use Rattle.road.specs.Kinds.{road-lookahead, road-rule};
 use crate::signal::Signal;
 use crate::signal::SignalDebug;
 use crate::signal::SignalPartialEq;
@@ -21,9 +21,9 @@ pub enum RoadKind {
 }
 
 pub impl Process<Vehicle> for RoadKind as RoadKindProcess {
-    ghost lookahead = { lookahead-in };
+    ghost lookahead = { road-lookahead };
 
-    ghost rule = { handled-by };
+    ghost rule = { road-rule };
 
     fn lookahead(&self) -> u32 {
         match self {

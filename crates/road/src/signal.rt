@@ -1,7 +1,7 @@
 //! A junction with a signal.
 ghost use mathlib.Core.Bool.{true};
 ghost use mathlib.Core.Path.{_≡_};
-ghost use Rattle.road.specs.Starting.{within};
+ghost use Rattle.road.specs.Limits.{signal-within};
 use crate::signal::settings::Settings;
 use crate::signal::settings::SettingsDebug;
 use crate::signal::settings::SettingsPartialEq;
@@ -15,5 +15,5 @@ pub mod settings;
 pub struct Signal {
     settings: Settings,
     free: u32,
-    ghost limits: { within settings ≡ true },
+    ghost limits: { signal-within settings ≡ true },
 }

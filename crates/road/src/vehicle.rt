@@ -1,7 +1,7 @@
 //! What drives on a road plan.
 ghost use mathlib.Core.Bool.{true};
 ghost use mathlib.Core.Path.{_≡_};
-ghost use Rattle.road.specs.Routes.{within};
+ghost use Rattle.road.specs.Limits.{vehicle-within};
 
 pub mod cargo;
 pub mod making;
@@ -12,5 +12,5 @@ pub mod turning;
 pub struct Vehicle {
     class: u32,
     route: u32,
-    ghost limits: { within class route ≡ true },
+    ghost limits: { vehicle-within class route ≡ true },
 }

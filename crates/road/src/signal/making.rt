@@ -1,15 +1,15 @@
 //! How a signal is made, and what it is made of.
 ghost use mathlib.Core.Path.{_≡_};
 ghost use Rattle.road.specs.Signals.{signal-of};
-ghost use Rattle.road.specs.Starting.{within};
+ghost use Rattle.road.specs.Limits.{signal-within};
 use super::Signal;
 use super::settings::Settings;
 use exit::limits::between;
 
 impl Settings {
     // Whether a signal can be set so.
-    pub fn within(&self) -> bool
-        ensures { λ r. ⌜ r ≡ within (now (self .entry)) ⌝ }
+    pub fn within_limits(&self) -> bool
+        ensures { λ r. ⌜ r ≡ signal-within (now (self .entry)) ⌝ }
     {
         between(1, 10_000, self.lookahead)
             && between(1, 10_000, self.cycle)
@@ -25,7 +25,7 @@ impl Signal {
     pub fn new(settings: Settings) -> Option<Signal>
         ensures { λ r. ⌜ r ≡ signal-of settings ⌝ }
     {
-        if settings.within() {
+        if settings.within_limits() {
             Some(Signal { settings, free: 0 })
         } else {
             None

@@ -1,9 +1,8 @@
 //! What a signal does.
 ghost use mathlib.Core.Path.{_≡_};
 ghost use Rattle.road.specs.Starting.{start-of};
-ghost use Rattle.road.specs.Signals.{lookahead-of, handled};
+ghost use Rattle.road.specs.Signals.{signal-lookahead, signal-rule};
 use super::Signal;
-use super::settings::Settings;
 use crate::vehicle::Vehicle;
 use crate::vehicle::cargo::VehicleCargo;
 use model::process::Process;
@@ -14,26 +13,21 @@ impl Signal {
     fn start(&self, time: u32) -> u32
         ensures { λ r. ⌜ r ≡ start-of (now (self .entry) .settings) (now (self .entry) .free) time ⌝ }
     {
-        let Settings {
-            cycle,
-            green,
-            offset,
-            ..
-        } = self.settings;
+        let lights = self.settings;
         let ready = time.max(self.free);
-        let phase = ready.saturating_add(offset) % cycle;
-        if phase < green {
+        let phase = ready.saturating_add(lights.offset) % lights.cycle;
+        if phase < lights.green {
             ready
         } else {
-            ready.saturating_add(cycle - phase)
+            ready.saturating_add(lights.cycle - phase)
         }
     }
 }
 
 pub impl Process<Vehicle> for Signal as SignalProcess {
-    ghost lookahead = { lookahead-of };
+    ghost lookahead = { signal-lookahead };
 
-    ghost rule = { handled };
+    ghost rule = { signal-rule };
 
     fn lookahead(&self) -> u32 {
         self.settings.lookahead

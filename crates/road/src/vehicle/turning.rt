@@ -1,6 +1,6 @@
 //! How a junction sends a vehicle on.
 ghost use mathlib.Core.Path.{_≡_};
-ghost use Rattle.road.specs.Routes.{turn-of, onward-route};
+ghost use Rattle.road.specs.Routes.{turn-of};
 ghost use Rattle.road.specs.Vehicles.{onward, turned};
 use super::Vehicle;
 use model::sending::Sending;

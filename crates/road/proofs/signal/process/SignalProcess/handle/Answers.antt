@@ -10,4 +10,4 @@ returns c =
     let s = c .args .self .now in
     let free : c .saturating-add-self .result ≡ free-after (s .settings) (s .free) (c .args .time) = search needs in
     let sent : c .turned .result ≡ turned (c .args .vehicle) (leaves-at (s .settings) (s .free) (c .args .time)) = search needs in
-    same-outcome _ _ _ _ refl free sent
+    same-outcome _ _ refl free _ _ sent

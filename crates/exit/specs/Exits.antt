@@ -8,11 +8,12 @@ use Rattle.exit.specs.Limits.{between, made-if}
 
 -- The exit of a lookahead from 1 to 10,000. There is no other.
 abbrev pub exit-of : ℕ → Option Exit
-exit-of lookahead = made-if (between 1 10000 lookahead) (λ ok. record { lookahead = lookahead; within = ok })
+exit-of lookahead = made-if (between 1 10000 lookahead) (λ ok. record { lookahead = lookahead; limits = ok })
 
-abbrev pub lookahead-of : Exit → ℕ
-lookahead-of e = e .lookahead
+-- The lookahead of an exit.
+abbrev pub exit-lookahead : Exit → ℕ
+exit-lookahead e = e .lookahead
 
--- The rule: it stays as it is, and sends nothing.
-abbrev pub leaves : {C : Type 0} → Exit → ℕ → ℕ → C → Exit × Option (Sending C)
-leaves e port time cargo = (e, None)
+-- The rule: the exit stays as it is, and sends nothing.
+abbrev pub exit-rule : {C : Type 0} → Exit → ℕ → ℕ → C → Exit × Option (Sending C)
+exit-rule e port time cargo = (e, None)
