@@ -2,8 +2,6 @@
 use crate::missing::Missing;
 use crate::missing::MissingDebug;
 use exit::Exit;
-use exit::ExitDebug;
-use exit::ExitPartialEq;
 use model::process::Process;
 use packet::frame::Frame;
 use packet::kind::PacketKind;
@@ -22,8 +20,8 @@ fn limits() -> Result<(), Fail> {
     let most = Exit::new(10_000).ok_or(Missing::WithinLimits)?;
     check_eq(most.lookahead(), 10_000)?;
     check(Exit::new(1).is_some())?;
-    check_eq(Exit::new(0), None).note("lookahead 0")?;
-    check_eq(Exit::new(10_001), None).note("lookahead 10,001")
+    check(Exit::new(0).is_none()).note("lookahead 0")?;
+    check(Exit::new(10_001).is_none()).note("lookahead 10,001")
 }
 
 #[test]

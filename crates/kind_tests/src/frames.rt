@@ -3,8 +3,6 @@ use crate::missing::Missing;
 use crate::missing::MissingDebug;
 use model::cargo::Cargo;
 use packet::frame::Frame;
-use packet::frame::FrameDebug;
-use packet::frame::FramePartialEq;
 use packet::frame::cargo::FrameCargo;
 use std::test::*;
 
@@ -14,9 +12,9 @@ fn limits() -> Result<(), Fail> {
     check_eq(last.destination(), 255)?;
     check_eq(last.length(), 9_000)?;
     check(Frame::new(0, 1).is_some())?;
-    check_eq(Frame::new(256, 1), None).note("destination 256")?;
-    check_eq(Frame::new(0, 0), None).note("length 0")?;
-    check_eq(Frame::new(0, 9_001), None).note("length 9,001")
+    check(Frame::new(256, 1).is_none()).note("destination 256")?;
+    check(Frame::new(0, 0).is_none()).note("length 0")?;
+    check(Frame::new(0, 9_001).is_none()).note("length 9,001")
 }
 
 #[test]

@@ -2,8 +2,6 @@
 use crate::missing::Missing;
 use crate::missing::MissingDebug;
 use road::signal::Signal;
-use road::signal::SignalDebug;
-use road::signal::SignalPartialEq;
 use road::signal::settings::Settings;
 use road::signal::settings::SettingsDebug;
 use road::signal::settings::SettingsPartialEq;
@@ -33,94 +31,57 @@ fn the_limits_are_within() -> Result<(), Fail> {
     check_eq(least.settings(), LEAST)?;
     check_eq(least.free(), 0)?;
     let most = Signal::new(MOST).ok_or(Missing::WithinLimits)?;
-    check_eq(most.settings(), MOST)?;
-    check_eq(most.free(), 0)
+    check_eq(most.settings(), MOST)
 }
 
 #[test]
-fn too_little() -> Result<(), Fail> {
-    check_eq(
-        Signal::new(Settings {
-            lookahead: 0,
-            ..LEAST
-        }),
-        None,
-    ).note("lookahead")?;
-    check_eq(Signal::new(Settings { cycle: 0, ..LEAST }), None).note("cycle")?;
-    check_eq(Signal::new(Settings { green: 0, ..LEAST }), None).note("green")?;
-    check_eq(
-        Signal::new(Settings {
-            headway: 0,
-            ..LEAST
-        }),
-        None,
-    ).note("headway")?;
-    check_eq(
-        Signal::new(Settings {
-            crossing: 0,
-            ..LEAST
-        }),
-        None,
-    ).note("crossing")
+fn lookahead() -> Result<(), Fail> {
+    let mut settings = LEAST;
+    settings.lookahead = 0;
+    check(Signal::new(settings).is_none())?;
+    settings.lookahead = 10_001;
+    check(Signal::new(settings).is_none())
 }
 
 #[test]
-fn too_much() -> Result<(), Fail> {
-    check_eq(
-        Signal::new(Settings {
-            lookahead: 10_001,
-            ..MOST
-        }),
-        None,
-    ).note("lookahead")?;
-    check_eq(
-        Signal::new(Settings {
-            cycle: 10_001,
-            ..MOST
-        }),
-        None,
-    ).note("cycle")?;
-    check_eq(
-        Signal::new(Settings {
-            headway: 10_001,
-            ..MOST
-        }),
-        None,
-    ).note("headway")?;
-    check_eq(
-        Signal::new(Settings {
-            crossing: 10_001,
-            ..MOST
-        }),
-        None,
-    ).note("crossing")
+fn cycle() -> Result<(), Fail> {
+    let mut settings = LEAST;
+    settings.cycle = 0;
+    check(Signal::new(settings).is_none())?;
+    settings.cycle = 10_001;
+    check(Signal::new(settings).is_none())
 }
 
 #[test]
-fn green_and_offset_within_the_cycle() -> Result<(), Fail> {
-    let lights = Settings {
-        cycle: 60,
-        green: 30,
-        offset: 0,
-        ..MOST
-    };
-    check(Signal::new(Settings {
-        green: 60,
-        offset: 59,
-        ..lights
-    }).is_some())?;
-    check_eq(
-        Signal::new(Settings {
-            green: 61,
-            ..lights
-        }),
-        None,
-    ).note("green")?;
-    check_eq(
-        Signal::new(Settings {
-            offset: 60,
-            ..lights
-        }),
-        None,
-    ).note("offset")
+fn green() -> Result<(), Fail> {
+    let mut settings = MOST;
+    settings.green = 0;
+    check(Signal::new(settings).is_none())?;
+    settings.green = 10_001;
+    check(Signal::new(settings).is_none())
+}
+
+#[test]
+fn offset() -> Result<(), Fail> {
+    let mut settings = MOST;
+    settings.offset = 10_000;
+    check(Signal::new(settings).is_none())
+}
+
+#[test]
+fn headway() -> Result<(), Fail> {
+    let mut settings = LEAST;
+    settings.headway = 0;
+    check(Signal::new(settings).is_none())?;
+    settings.headway = 10_001;
+    check(Signal::new(settings).is_none())
+}
+
+#[test]
+fn crossing() -> Result<(), Fail> {
+    let mut settings = LEAST;
+    settings.crossing = 0;
+    check(Signal::new(settings).is_none())?;
+    settings.crossing = 10_001;
+    check(Signal::new(settings).is_none())
 }

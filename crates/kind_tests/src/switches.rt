@@ -10,8 +10,6 @@ use packet::kind::PacketKindDebug;
 use packet::kind::PacketKindPartialEq;
 use packet::kind::PacketKindProcess;
 use packet::switch::Switch;
-use packet::switch::SwitchDebug;
-use packet::switch::SwitchPartialEq;
 use packet::switch::process::SwitchProcess;
 use std::test::*;
 
@@ -21,10 +19,10 @@ fn limits() -> Result<(), Fail> {
     check_eq(most.service(), 10_000)?;
     check_eq(most.free(), 0)?;
     check(Switch::new(1, 1).is_some())?;
-    check_eq(Switch::new(0, 1), None).note("lookahead 0")?;
-    check_eq(Switch::new(10_001, 1), None).note("lookahead 10,001")?;
-    check_eq(Switch::new(1, 0), None).note("service 0")?;
-    check_eq(Switch::new(1, 10_001), None).note("service 10,001")
+    check(Switch::new(0, 1).is_none()).note("lookahead 0")?;
+    check(Switch::new(10_001, 1).is_none()).note("lookahead 10,001")?;
+    check(Switch::new(1, 0).is_none()).note("service 0")?;
+    check(Switch::new(1, 10_001).is_none()).note("service 10,001")
 }
 
 #[test]
