@@ -10,9 +10,6 @@ use Rattle.slots.proofs.Limits.{Limited}
 use Rattle.ring.specs.Shape.{around, spot}
 
 module _ (size head : ℕ) (l : head < size) where
-  pub around-below : (n : ℕ) → n ≤ size → around size head n < size
-  around-below n m = grind (arith, tells)
-
   -- Places that lie less than a whole round apart differ.
   pub around-apart : (j n : ℕ) → j < n → n < size → around size head j ≢ around size head n
   around-apart j n m o = λ e. grind (arith, tells)
@@ -23,9 +20,6 @@ module _ (size head : ℕ) (l : head < size) where
   -- What lies j places after the next place lies j + 1 places after this one.
   pub around-next : (j : ℕ) → j < size → around size head (suc j) ≡ around size (around size head 1) j
   around-next j m = grind (arith, tells)
-
-pub part-within : (size links k a : ℕ) → k < links → a < size → k * size + a < links * size
-part-within size links k a l m = omega (arith, mul-add-lt k size a links l m, mul-comm size links)
 
 pub part-apart : (size k j a b : ℕ) → k ≢ j → a < size → b < size → k * size + a ≢ j * size + b
 part-apart size k j a b ne l m e =
@@ -45,4 +39,5 @@ parts links n ok =
     record {
       some = le-div 4 n links (ok .some) (ok .enough);
       wide = omega arith;
-      enough = omega arith }
+      enough = omega arith;
+    }

@@ -26,7 +26,8 @@ module _ {C : Type 0} where
     delay = λ k. 0;
     free = λ k. size - getD lanes k fresh .len;
     capacity = λ k. size;
-    quotas = λ k. [] }
+    quotas = λ k. [];
+  }
 
   abbrev pub meaning-of : Ring C → Pile C
   meaning-of r = pile-of (r .links) (r .size) (r .slots .now) (r .lanes)

@@ -1,3 +1,3 @@
 //! A store of links in a ring of slots for each link.
-pub mod lane;
+mod lane;
 pub mod store;

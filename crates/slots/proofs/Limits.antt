@@ -14,7 +14,8 @@ pub record Limited (links n : ℕ) : Type 0 where
 
 pub limited : (links n : ℕ) → suitable links n ≡ true → Limited links n
 limited links n e = record {
-    some = grind (arith, tells);
-    few = grind (arith, tells);
-    enough = grind (arith, tells);
-    small = grind (arith, tells) }
+  some = grind (arith, tells);
+  few = grind (arith, tells);
+  enough = grind (arith, tells);
+  small = grind (arith, tells);
+}

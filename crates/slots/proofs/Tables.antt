@@ -10,12 +10,12 @@ use Rattle.std.proofs.shelf.Tests.{cases-eq, cases-lt}
 module _ {X : Type 0} where
   -- What holds of each row, and of what is written to one of them, holds of each row afterwards.
   pub table-set : (P : X → Type 0) (t : List X) (n i : ℕ) (v d : X)
-    → ((k : ℕ) → k < n → P (getD t k d)) → P v → (k : ℕ) → k < n → P (getD (set t i v) k d)
+      → ((k : ℕ) → k < n → P (getD t k d)) → P v → (k : ℕ) → k < n → P (getD (set t i v) k d)
   table-set P t n i v d old new k l =
       ⊎-elim
-        (λ (same : k ≡ i). ⊎-elim
-          (λ (within : i < length t). rw (same, getD-set-same) new)
-          (λ (past : length t ≤ i). rw set-past (old k l))
-          (cases-lt i (length t)))
-        (λ (ne : k ≢ i). rw getD-set-other (old k l))
-        (cases-eq k i)
+      (λ (same : k ≡ i). ⊎-elim
+      (λ (within : i < length t). rw (same, getD-set-same) new)
+      (λ (past : length t ≤ i). rw set-past (old k l))
+      (cases-lt i (length t)))
+      (λ (ne : k ≢ i). rw getD-set-other (old k l))
+      (cases-eq k i)

@@ -28,7 +28,7 @@ module _ {X : Type 0} where
 
   -- A write to a slot that a walk does not pass leaves the walk.
   pub walk-other : (s : List X) (f : ℕ → ℕ) (n i : ℕ) (v : X)
-    → ((j : ℕ) → j < n → f j ≢ i) → walk (set s i v) f n ≡ walk s f n
+      → ((j : ℕ) → j < n → f j ≢ i) → walk (set s i v) f n ≡ walk s f n
   unfolding walk
   walk-other s f zero i v ne = refl
   walk-other s f (suc n) i v ne =
@@ -38,7 +38,7 @@ module _ {X : Type 0} where
 
   -- A write to the slot after a walk lengthens the walk by what is written.
   pub walk-put : (s : List X) (f : ℕ → ℕ) (n : ℕ) (v : X)
-    → ((j : ℕ) → j < n → f j ≢ f n) → f n < length s → walk (set s (f n) v) f (suc n) ≡ walk s f n ++ (v ∷ [])
+      → ((j : ℕ) → j < n → f j ≢ f n) → f n < length s → walk (set s (f n) v) f (suc n) ≡ walk s f n ++ (v ∷ [])
   unfolding walk
   walk-put s f n v ne l =
       let a = walk-other s f n (f n) v ne in
@@ -64,7 +64,7 @@ module _ {X : Type 0} where
 
   -- A walk is its first element and the walk from there.
   pub walk-first : (s : List X) (f g : ℕ → ℕ) (n : ℕ) (d : X) → f 0 < length s → ((j : ℕ) → j < n → f (suc j) ≡ g j)
-    → walk s f (suc n) ≡ getD s (f 0) d ∷ walk s g n
+      → walk s f (suc n) ≡ getD s (f 0) d ∷ walk s g n
   walk-first s f g n d l e =
       let a = walk-from s f n in
       let b = here-read s (f 0) d l in

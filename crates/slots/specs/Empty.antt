@@ -12,10 +12,11 @@ suitable links n = leb 1 links && leb links 128 && leb (4 * links) n && leb n 65
 -- So many links without a delay, on which nothing waits, each with so many places.
 abbrev pub empty : {C : Type 0} → ℕ → ℕ → Pile C
 empty links places = record {
-    count = links;
-    waiting = λ k. [];
-    floor = λ k. 0;
-    delay = λ k. 0;
-    free = λ k. places;
-    capacity = λ k. places;
-    quotas = λ k. [] }
+  count = links;
+  waiting = λ k. [];
+  floor = λ k. 0;
+  delay = λ k. 0;
+  free = λ k. places;
+  capacity = λ k. places;
+  quotas = λ k. [];
+}

@@ -3,7 +3,9 @@ ghost use mathlib.Core.Path.{_≡_};
 ghost use Rattle.slots.specs.Empty.{suitable};
 
 pub const MOST_LINKS: usize = 128;
+
 pub const MOST_SLOTS: usize = 65_535;
+
 pub const LEAST_SLOTS_A_LINK: usize = 4;
 
 // Whether so many slots can serve so many links.

@@ -1,0 +1,32 @@
+use Prim.Native.Nat.{_<_}
+use native.Mathlib.Omega.{arith}
+use lib.ListN.{getD}
+use Rattle.ring.specs.Shape.{fresh}
+use Rattle.ring.specs.Soundness.{around-below}
+use Rattle.ring.proofs.Meanings.{row-set, first-some, take-done}
+use Rattle.ring.proofs.store.calls.RingLinks.take.Needs as need
+
+pub place-head-requires : need.place-head-requires
+place-head-requires g c κs =
+    let w = c .args .self .now .within (c .args .link) (c .in-Continue-event .ensures tt .0) in
+    (w .0, (omega (arith, w .0), c .args .self .now .wide))
+
+pub sub-self : need.sub-self
+sub-self g c =
+    let found = c .in-Continue-event .ensures tt in
+    first-some (c .args .self .now) (c .args .link) (found .0) (c .in-Some .event) (rw (c .in-Some .is) at (found .1))
+
+pub ghost-self : need.ghost-self
+ghost-self g c =
+    let s = c .args .self .now in
+    let w = s .within (c .args .link) (c .in-Continue-event .ensures tt .0) in
+    let head : c .place-head .result < s .size =
+    rw (c .place-head .ensures) (around-below (s .size) (getD (s .lanes) (c .args .link) fresh .head) 1 (w .0) (omega arith)) in
+    let rows = row-set s (c .args .link) _ (head, omega (arith, w .1), w .2) in
+    (s .few, (s .wide, (s .enough, (rows .0, (rows .1, tt)))))
+
+pub returns : need.returns
+returns g c =
+    let found = c .in-Continue-event .ensures tt in
+    rw (c .place-head .ensures)
+    (take-done (c .args .self .now) (c .args .link) (found .0) (c .in-Some .event) (rw (c .in-Some .is) at (found .1)))
