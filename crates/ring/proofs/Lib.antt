@@ -1,2 +1,5 @@
 pub mod Places
-pub mod Meanings
+pub mod Opening
+pub mod Rows
+pub mod Putting
+pub mod Taking

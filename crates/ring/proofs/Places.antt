@@ -1,31 +1,29 @@
--- The slots of a link lie in its part, one to a place, and no other link's do.
+-- The places of a part differ, the parts lie apart, and all of them fit into the slots.
 use mathlib.Core.Path.{_≡_, sym, ap, _∙_}
 use mathlib.Core.Logic.{_≢_}
 use Prim.Native.Nat.{ℕ, suc, _+_, _*_, _/_, _≤_, _<_}
 use native.Mathlib.Nat.{mul-comm}
 use native.Mathlib.Omega.{arith}
-use Rattle.std.proofs.shelf.Bits.{mul-add-lt, div-mul-add, div-add-mod', le-div, mul-le}
+use Rattle.std.proofs.shelf.Bits.{div-mul-add, div-add-mod', le-div, mul-le}
 use Rattle.std.proofs.shelf.Ways.{tells}
 use Rattle.slots.proofs.Limits.{Limited}
-use Rattle.ring.specs.Shape.{around, spot}
+use Rattle.ring.specs.Shape.{around}
 
 module _ (size head : ℕ) (l : head < size) where
-  -- Places that lie less than a whole round apart differ.
+  -- Places less than a whole round apart differ.
   pub around-apart : (j n : ℕ) → j < n → n < size → around size head j ≢ around size head n
   around-apart j n m o = λ e. grind (arith, tells)
-
-  pub around-none : around size head 0 ≡ head
-  around-none = grind (arith, tells)
 
   -- What lies j places after the next place lies j + 1 places after this one.
   pub around-next : (j : ℕ) → j < size → around size head (suc j) ≡ around size (around size head 1) j
   around-next j m = grind (arith, tells)
 
+-- Slots in the parts of two links differ.
 pub part-apart : (size k j a b : ℕ) → k ≢ j → a < size → b < size → k * size + a ≢ j * size + b
 part-apart size k j a b ne l m e =
     ne (sym (div-mul-add k size a l) ∙ ap (λ (n : ℕ). n / size) e ∙ div-mul-add j size b m)
 
--- The parts of so many links, each as large as it can be, fit into the slots.
+-- So many parts of the given size fit into n slots.
 pub record Parts (links size n : ℕ) : Type 0 where
   pub some : 4 ≤ size
   pub wide : size ≤ 65535

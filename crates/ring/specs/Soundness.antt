@@ -4,13 +4,13 @@ use Prim.Native.Nat.{ℕ, _+_, _*_, _≤_, _<_}
 use native.Mathlib.Nat.{mul-comm}
 use native.Mathlib.Omega.{arith}
 use lib.Dec.{ltb}
-use lib.ListN.{length, getD}
+use lib.ListN.{length}
 use Rattle.std.proofs.shelf.Bits.{mul-add-lt}
 use Rattle.std.proofs.shelf.Tests.{cond-both, ltb-true, ltb-false}
 use Rattle.model.specs.Pile.{Sound}
 use Rattle.slots.proofs.Walks.{length-walk}
 use Rattle.ring.specs.declared.store.Ring.{Ring}
-use Rattle.ring.specs.Shape.{fresh, around, spot}
+use Rattle.ring.specs.Shape.{row, around, spot}
 use Rattle.ring.specs.Meaning.{meaning-of}
 
 -- Every place lies in the part.
@@ -27,21 +27,20 @@ part-within size links k a l m = omega (arith, mul-add-lt k size a links l m, mu
 module _ {C : Type 0} (r : Ring C) where
   -- The slots of a link are there.
   pub spot-inside : (k : ℕ) → k < r .links → (n : ℕ) → n ≤ r .size
-      → spot (r .size) k (getD (r .lanes) k fresh .head) n < length (r .slots .now)
+      → spot (r .size) k (row (r .lanes) k .head) n < length (r .slots .now)
   spot-inside k l n m =
-      let head = getD (r .lanes) k fresh .head in
+      let head = row (r .lanes) k .head in
       let a = around-below (r .size) head n (r .within k l .0) m in
       let b = part-within (r .size) (r .links) k (around (r .size) head n) l a in
       let e = r .enough in
       omega arith
 
   -- As many events wait on a link as its lane says.
-  pub length-waiting : (k : ℕ) → k < r .links → length (meaning-of r .waiting k) ≡ getD (r .lanes) k fresh .len
+  pub length-waiting : (k : ℕ) → k < r .links → length (meaning-of r .waiting k) ≡ row (r .lanes) k .len
   length-waiting k l =
-      length-walk (r .slots .now) (spot (r .size) k (getD (r .lanes) k fresh .head)) (getD (r .lanes) k fresh .len)
+      length-walk (r .slots .now) (spot (r .size) k (row (r .lanes) k .head)) (row (r .lanes) k .len)
       (λ j m. spot-inside k l j (omega (arith, r .within k l .1)))
 
-  -- A ring keeps what every pile keeps.
   pub is-sound : Sound (meaning-of r)
   is-sound = record {
     few = r .few;

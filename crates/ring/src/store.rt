@@ -1,8 +1,8 @@
 //! The store, over slots that the caller lends.
 ghost use Prim.Native.Nat.{ℕ, _*_, _≤_, _<_};
 ghost use mathlib.Core.Path.{_≡_};
-ghost use lib.ListN.{length, getD};
-ghost use Rattle.ring.specs.Shape.{Within, fresh};
+ghost use lib.ListN.{length};
+ghost use Rattle.ring.specs.Shape.{Within, row};
 use crate::lane::Lane;
 use model::event::Event;
 use slots::MOST_LINKS;
@@ -20,5 +20,5 @@ pub struct Ring<'a, C> {
     ghost wide: { size ≤ 65535 },
     ghost enough: { links * size ≤ length (slots .now) },
     ghost rows: { length lanes ≡ 128 },
-    ghost within: { (k : ℕ) → k < links → Within size (getD lanes k fresh) },
+    ghost within: { (k : ℕ) → k < links → Within size (row lanes k) },
 }

@@ -1,8 +1,8 @@
 //! The calls of the store.
-ghost use Prim.Native.Nat.{ℕ, _+_, _≤_, _<_};
+ghost use Prim.Native.Nat.{_≤_, _<_};
 ghost use mathlib.Core.Path.{_≡_};
-ghost use lib.ListN.{length, getD, replicate};
-ghost use Rattle.ring.specs.Shape.{fresh, around, spot};
+ghost use lib.ListN.{length, replicate};
+ghost use Rattle.ring.specs.Shape.{fresh, row, around, spot};
 ghost use Rattle.ring.specs.Meaning.{meaning-of, opened, Looked, Looked-at};
 ghost use Rattle.ring.specs.Soundness.{is-sound};
 use super::Ring;
@@ -88,7 +88,7 @@ impl<'a, C: Cargo> Ring<'a, C> {
     // The slot that lies `after` places after the head of a link.
     fn slot(&self, link: usize, after: u32) -> usize
         requires { ⌜ link < now self .links ⌝ ∗ ⌜ after < now self .size ⌝ }
-        ensures is { λ r. ⌜ r ≡ spot (now (self .entry) .size) link (getD (now (self .entry) .lanes) link fresh .head) after ⌝ }
+        ensures is { λ r. ⌜ r ≡ spot (now (self .entry) .size) link (row (now (self .entry) .lanes) link .head) after ⌝ }
         ensures inside { λ r. ⌜ r < length (now (self .entry) .slots .now) ⌝ }
     {
         link * self.size as usize + place(self.size, self.lanes[link].head, after) as usize
@@ -116,11 +116,8 @@ pub impl<'a, C: Cargo> Links<C> for Ring<'a, C> as RingLinks {
     }
 
     fn null(&mut self, link: usize, time: u32) -> Result<(), LinkFault> {
-        let lane = self.lane_at(link, time)?;
-        self.lanes[link] = Lane {
-            floor: time,
-            ..lane
-        };
+        self.lane_at(link, time)?;
+        self.lanes[link].floor = time;
         Ok(())
     }
 

@@ -4,7 +4,7 @@ use lib.ListN.{length, length-replicate}
 use Rattle.slots.proofs.Limits.{limited}
 use Rattle.ring.specs.Shape.{fresh}
 use Rattle.ring.proofs.Places.{parts}
-use Rattle.ring.proofs.Meanings.{within-fresh, opened-all, opened-none}
+use Rattle.ring.proofs.Opening.{within-fresh, opened-all, opened-none}
 use Rattle.ring.proofs.store.Ring.new.Needs as need
 
 pub returns-then-not-suits : need.returns-then-not-suits

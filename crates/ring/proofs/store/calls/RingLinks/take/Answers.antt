@@ -1,9 +1,9 @@
 use Prim.Native.Nat.{_<_}
 use native.Mathlib.Omega.{arith}
-use lib.ListN.{getD}
-use Rattle.ring.specs.Shape.{fresh}
+use Rattle.ring.specs.Shape.{row}
 use Rattle.ring.specs.Soundness.{around-below}
-use Rattle.ring.proofs.Meanings.{row-set, first-some, take-done}
+use Rattle.ring.proofs.Rows.{rows-set, within-set}
+use Rattle.ring.proofs.Taking.{first-some, take-done}
 use Rattle.ring.proofs.store.calls.RingLinks.take.Needs as need
 
 pub place-head-requires : need.place-head-requires
@@ -19,14 +19,14 @@ sub-self g c =
 pub ghost-self : need.ghost-self
 ghost-self g c =
     let s = c .args .self .now in
-    let w = s .within (c .args .link) (c .in-Continue-event .ensures tt .0) in
-    let head : c .place-head .result < s .size =
-    rw (c .place-head .ensures) (around-below (s .size) (getD (s .lanes) (c .args .link) fresh .head) 1 (w .0) (omega arith)) in
-    let rows = row-set s (c .args .link) _ (head, omega (arith, w .1), w .2) in
-    (s .few, (s .wide, (s .enough, (rows .0, (rows .1, tt)))))
+    let k = c .args .link in
+    let w = s .within k (c .in-Continue-event .ensures tt .0) in
+    let a = around-below (s .size) (row (s .lanes) k .head) 1 (w .0) (omega arith) in
+    let head : c .place-head .result < s .size = rw (c .place-head .ensures) a in
+    (s .few, (s .wide, (s .enough, (rows-set s k _, (within-set s k _ (head, omega (arith, w .1), w .2), tt)))))
 
 pub returns : need.returns
 returns g c =
     let found = c .in-Continue-event .ensures tt in
-    rw (c .place-head .ensures)
-    (take-done (c .args .self .now) (c .args .link) (found .0) (c .in-Some .event) (rw (c .in-Some .is) at (found .1)))
+    let is = rw (c .in-Some .is) at (found .1) in
+    rw (c .place-head .ensures) (take-done (c .args .self .now) (c .args .link) (found .0) (c .in-Some .event) is)
