@@ -4,7 +4,7 @@ use mathlib.Core.Logic.{_≢_}
 use Prim.Native.Nat.{ℕ, suc, _+_, _*_, _/_, _≤_, _<_}
 use native.Mathlib.Nat.{mul-comm}
 use native.Mathlib.Omega.{arith}
-use Rattle.std.proofs.shelf.Bits.{div-mul-add, div-add-mod', le-div, mul-le}
+use Rattle.std.proofs.shelf.Bits.{div-mul-add, div-add-mod', mul-le}
 use Rattle.std.proofs.shelf.Ways.{tells}
 use Rattle.slots.proofs.Limits.{Limited}
 use Rattle.ring.specs.Shape.{around}
@@ -23,19 +23,15 @@ pub part-apart : (size k j a b : ℕ) → k ≢ j → a < size → b < size → 
 part-apart size k j a b ne l m e =
     ne (sym (div-mul-add k size a l) ∙ ap (λ (n : ℕ). n / size) e ∙ div-mul-add j size b m)
 
--- So many parts of the given size fit into n slots.
-pub record Parts (links size n : ℕ) : Type 0 where
-  pub some : 4 ≤ size
-  pub wide : size ≤ 65535
-  pub enough : links * size ≤ n
+-- Parts no larger than an even share of the slots are no larger than all of them, and fit into them.
+module _ (links n size : ℕ) (ok : Limited links n) (share : size ≤ n / links) where
+  pub parts-enough : links * size ≤ n
+  parts-enough =
+      let d = div-add-mod' n links in
+      let a = mul-le size links (n / links) links share (omega arith) in
+      omega (arith, mul-comm links size)
 
-pub parts : (links n : ℕ) → Limited links n → Parts links (n / links) n
-parts links n ok =
-    let d = div-add-mod' n links in
-    let m = mul-comm links (n / links) in
-    let q = mul-le (n / links) 1 (n / links) links (omega arith) (omega arith) in
-    record {
-      some = le-div 4 n links (ok .some) (ok .enough);
-      wide = omega arith;
-      enough = omega arith;
-    }
+  pub part-wide : size ≤ 65535
+  part-wide =
+      let a = mul-le 1 size links size (ok .some) (omega arith) in
+      omega (arith, parts-enough)

@@ -1,9 +1,10 @@
 use mathlib.Core.Path.{sym, ap, _∙_}
 use native.Mathlib.Omega.{arith}
 use lib.ListN.{length, length-replicate}
+use Rattle.std.proofs.shelf.Bits.{le-div}
 use Rattle.slots.proofs.Limits.{limited}
 use Rattle.ring.specs.Shape.{fresh}
-use Rattle.ring.proofs.Places.{parts}
+use Rattle.ring.proofs.Places.{part-wide, parts-enough}
 use Rattle.ring.proofs.Opening.{within-fresh, opened-all, opened-none}
 use Rattle.ring.proofs.store.Ring.new.Needs as need
 
@@ -15,17 +16,18 @@ returns-then-not-suits g c =
 pub ghost-result-2 : need.ghost-result-2
 ghost-result-2 g c =
     let n = length (c .args .slots .now) in
-    let ok = limited (c .args .links) n (sym (c .if-not-suits .ensures tt)) in
-    let p = parts (c .args .links) n ok in
+    let k = c .args .links in
+    let ok = limited k n (sym (c .if-not-suits .ensures tt)) in
+    let four = le-div 4 n k (ok .some) (ok .enough) in
     let rows = ap length (c .fresh-lanes-lanes .ensures) ∙ length-replicate 128 fresh in (
       ok .few,
       (
-        p .wide,
+        part-wide k n _ ok (omega arith),
         (
-          p .enough,
+          parts-enough k n _ ok (omega arith),
           (
             rows,
-            (λ k l. simp (c .fresh-lanes-lanes .ensures) (within-fresh _ k (omega arith)), tt),
+            (λ j l. simp (c .fresh-lanes-lanes .ensures) (within-fresh _ j (omega arith)), tt),
           ),
         ),
       ),

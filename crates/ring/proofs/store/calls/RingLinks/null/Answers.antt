@@ -1,3 +1,4 @@
+use native.Mathlib.Omega.{arith}
 use Rattle.ring.proofs.Rows.{rows-set, within-set}
 use Rattle.ring.proofs.store.calls.RingLinks.null.Needs as need
 
@@ -7,4 +8,5 @@ ghost-self g c =
     let k = c .args .link in
     let found = c .in-Continue-lane-at .ensures tt .0 in
     let w = s .within k (found .there) in
-    (s .few, (s .wide, (s .enough, (rows-set s k _, (within-set s k _ (w .0, w .1, found .soon), tt)))))
+    let soon = found .soon in
+    (s .few, (s .wide, (s .enough, (rows-set s k _, (within-set s k _ (omega arith, omega arith, omega arith), tt)))))

@@ -1,4 +1,4 @@
-use Prim.Native.Nat.{_+_, _≤_, _<_}
+use Prim.Native.Nat.{_<_}
 use native.Mathlib.Omega.{arith}
 use lib.ListN.{length-set}
 use Rattle.ring.specs.Shape.{row}
@@ -12,8 +12,8 @@ ghost-self g c =
     let k = c .args .link in
     let found = c .in-Continue-lane .ensures tt in
     let w = rw (← found .1) at (s .within k (found .0 .there)) in
-    let more : c .in-Continue-lane .lane .len + 1 ≤ s .size = omega (arith, w .1) in
-    (s .few, (s .wide, (simp length-set (s .enough), (rows-set s k _, (within-set s k _ (w .0, more, found .0 .soon), tt)))))
+    let soon = found .0 .soon in
+    (s .few, (s .wide, (simp length-set (s .enough), (rows-set s k _, (within-set s k _ (omega arith, omega arith, omega arith), tt)))))
 
 pub returns : need.returns
 returns g c =

@@ -1,6 +1,5 @@
 use Prim.Native.Nat.{_<_}
 use native.Mathlib.Omega.{arith}
-use Rattle.ring.specs.Shape.{row}
 use Rattle.ring.specs.Soundness.{around-below}
 use Rattle.ring.proofs.Rows.{rows-set, within-set}
 use Rattle.ring.proofs.Taking.{first-some, take-done}
@@ -21,9 +20,8 @@ ghost-self g c =
     let s = c .args .self .now in
     let k = c .args .link in
     let w = s .within k (c .in-Continue-event .ensures tt .0) in
-    let a = around-below (s .size) (row (s .lanes) k .head) 1 (w .0) (omega arith) in
-    let head : c .place-head .result < s .size = rw (c .place-head .ensures) a in
-    (s .few, (s .wide, (s .enough, (rows-set s k _, (within-set s k _ (head, omega (arith, w .1), w .2), tt)))))
+    let head : c .place-head .result < s .size = rw (c .place-head .ensures) (around-below (s .size) _ _ (w .0) (omega arith)) in
+    (s .few, (s .wide, (s .enough, (rows-set s k _, (within-set s k _ (head, omega arith, omega arith), tt)))))
 
 pub returns : need.returns
 returns g c =
