@@ -1,5 +1,5 @@
 -- An event written to the slot after the last one of its link waits last.
-use mathlib.Core.Path.{ap}
+use mathlib.Core.Path.{_≡_, ap}
 use mathlib.Core.Logic.{_≢_}
 use Prim.Native.Nat.{ℕ, _+_, _<_}
 use native.Mathlib.Nat.{add-zero}
@@ -32,12 +32,11 @@ module _ {C : Type 0} (r : Ring C) (k : ℕ) (l : k < r .links) (room : row (r .
       let b = around-below (r .size) (row (r .lanes) k .head) (row (r .lanes) k .len) (r .within k l .0) (omega arith) in
       part-apart (r .size) j k _ _ ne a b
 
-  pub put-done : (t : ℕ) (c : C) → Timely (meaning-of r) k t
+  pub put-done : (at : ℕ) (lane : Lane) (t : ℕ) (c : C) → Timely (meaning-of r) k t → at ≡ next-slot r k
+      → lane .head ≡ row (r .lanes) k .head → lane .len ≡ row (r .lanes) k .len + 1 → lane .floor ≡ t
       → PutDone (meaning-of r) k t c
-      (pile-of (r .links) (r .size) (set (r .slots .now) (next-slot r k) (record { time = t; cargo = c }))
-      (set (r .lanes) k (record { head = row (r .lanes) k .head; len = row (r .lanes) k .len + 1; floor = t })))
-  put-done t c ok =
-      let lane : Lane = record { head = row (r .lanes) k .head; len = row (r .lanes) k .len + 1; floor = t } in
+      (pile-of (r .links) (r .size) (set (r .slots .now) at (record { time = t; cargo = c })) (set (r .lanes) k lane))
+  put-done at lane t c ok here head len floor =
       let event : Event C = record { time = t; cargo = c } in
       let same = row-same r k lane l in
       let other = row-other r k lane in
@@ -45,10 +44,10 @@ module _ {C : Type 0} (r : Ring C) (k : ℕ) (l : k < r .links) (room : row (r .
         timely = ok;
         steady = steady r _ _;
         apart = record {
-          waiting = λ j m ne. rw (other j ne) (walk-other (r .slots .now) _ (row (r .lanes) j .len) _ event (next-apart j m ne));
+          waiting = λ j m ne. rw (other j ne, here) (walk-other (r .slots .now) _ (row (r .lanes) j .len) _ event (next-apart j m ne));
           floor = λ j m ne. ap (λ (x : Lane). x .floor) (other j ne);
         };
-        waiting = rw (same, add-one, add-zero) (walk-put (r .slots .now) _ _ event next-fresh (spot-inside r k l _ (omega arith)));
+        waiting = rw (same, here, head, len, add-one, add-zero) (walk-put (r .slots .now) _ _ event next-fresh (spot-inside r k l _ (omega arith)));
         floor = rw same (omega arith);
         free = rw same (omega arith);
         falls = λ j m ne. rw (other j ne) (omega arith, omega arith);

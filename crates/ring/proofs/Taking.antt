@@ -18,14 +18,6 @@ use Rattle.ring.specs.Soundness.{spot-inside}
 use Rattle.ring.proofs.Places.{around-next}
 use Rattle.ring.proofs.Rows.{row-same, row-other, steady}
 
--- The lane of the link k without its oldest event.
-abbrev pub moved-on : {C : Type 0} → Ring C → ℕ → Lane
-moved-on r k = record {
-  head = around (r .size) (row (r .lanes) k .head) 1;
-  len = row (r .lanes) k .len - 1;
-  floor = row (r .lanes) k .floor;
-}
-
 module _ {C : Type 0} (r : Ring C) (k : ℕ) (l : k < r .links) where
   -- Nothing waits where the length is 0.
   pub none-waits : row (r .lanes) k .len ≡ 0 → meaning-of r .waiting k ≡ []
@@ -34,7 +26,7 @@ module _ {C : Type 0} (r : Ring C) (k : ℕ) (l : k < r .links) where
   -- Where it is not, the event at the head waits first, and the others wait from the next place on.
   pub some-wait : (d : Event C) → 0 < row (r .lanes) k .len
       → meaning-of r .waiting k ≡ getD (r .slots .now) (spot (r .size) k (row (r .lanes) k .head) 0) d
-      ∷ walk (r .slots .now) (spot (r .size) k (moved-on r k .head)) (moved-on r k .len)
+      ∷ walk (r .slots .now) (spot (r .size) k (around (r .size) (row (r .lanes) k .head) 1)) (row (r .lanes) k .len - 1)
   some-wait d some =
       let head = row (r .lanes) k .head in
       let len = row (r .lanes) k .len in
@@ -63,13 +55,15 @@ module _ {C : Type 0} (r : Ring C) (k : ℕ) (l : k < r .links) where
       let never : row (r .lanes) k .len ≡ 0 → ⊥ = λ none. none-first none e is in
       omega (arith, never)
 
-  pub take-done : (e : Event C) → Some e ≡ oldest (meaning-of r .waiting k)
-      → TakeDone (meaning-of r) k e (pile-of (r .links) (r .size) (r .slots .now) (set (r .lanes) k (moved-on r k)))
-  take-done e is =
+  pub take-done : (e : Event C) (lane : Lane) → Some e ≡ oldest (meaning-of r .waiting k)
+      → lane .head ≡ around (r .size) (row (r .lanes) k .head) 1 → lane .len ≡ row (r .lanes) k .len - 1
+      → lane .floor ≡ row (r .lanes) k .floor
+      → TakeDone (meaning-of r) k e (pile-of (r .links) (r .size) (r .slots .now) (set (r .lanes) k lane))
+  take-done e lane is head len floor =
       let some = first-some e is in
       let count : row (r .lanes) k .len ≤ r .size = r .within k l .1 in
-      let same = row-same r k (moved-on r k) l in
-      let other = row-other r k (moved-on r k) in
+      let same = row-same r k lane l in
+      let other = row-other r k lane in
       let w = some-wait e some in
       let o = ap oldest w in
       record {
@@ -79,8 +73,8 @@ module _ {C : Type 0} (r : Ring C) (k : ℕ) (l : k < r .links) where
           waiting = λ j m ne. rw (other j ne);
           floor = λ j m ne. ap (λ (x : Lane). x .floor) (other j ne);
         };
-        waiting = rw same (cc);
-        floor = rw same;
+        waiting = rw (same, head, len) (cc);
+        floor = rw same floor;
         free = rw same (omega arith);
         rises = λ j m ne. rw (other j ne) (omega arith);
       }

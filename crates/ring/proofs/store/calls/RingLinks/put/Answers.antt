@@ -1,3 +1,4 @@
+use mathlib.Core.Path.{refl}
 use Prim.Native.Nat.{_<_}
 use native.Mathlib.Omega.{arith}
 use lib.ListN.{length-set}
@@ -22,4 +23,5 @@ returns g c =
     let found = c .in-Continue-lane .ensures tt in
     let w = rw (← found .1) at (s .within k (found .0 .there)) in
     let room : row (s .lanes) k .len < s .size = rw (← found .1) (omega (arith, w .1)) in
-    simp (found .1, c .slot-at .ensures .is) (put-done s k (found .0 .there) room (c .args .time) (c .args .cargo) (found .0))
+    put-done s k (found .0 .there) room _ _ (c .args .time) (c .args .cargo) (found .0)
+    (rw (c .slot-at .ensures .is, found .1)) (rw (found .1)) (rw (found .1)) refl

@@ -1,3 +1,4 @@
+use mathlib.Core.Path.{refl}
 use Prim.Native.Nat.{_<_}
 use native.Mathlib.Omega.{arith}
 use Rattle.ring.specs.Soundness.{around-below}
@@ -27,4 +28,4 @@ pub returns : need.returns
 returns g c =
     let found = c .in-Continue-event .ensures tt in
     let is = rw (c .in-Some .is) at (found .1) in
-    rw (c .place-head .ensures) (take-done (c .args .self .now) (c .args .link) (found .0) (c .in-Some .event) is)
+    take-done (c .args .self .now) (c .args .link) (found .0) (c .in-Some .event) _ is (c .place-head .ensures) refl refl
