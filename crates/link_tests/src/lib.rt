@@ -4,3 +4,5 @@ pub mod parcel;
 mod rings;
 #[cfg(test)]
 mod script;
+#[cfg(test)]
+mod scripts;

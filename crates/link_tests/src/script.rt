@@ -1,6 +1,7 @@
-//! Calls of the links with the answers that they must give.
+//! Calls of the links, and what they must answer.
 use crate::parcel::Parcel;
 use crate::parcel::ParcelCargo;
+use model::cargo::Cargo;
 use model::event::Event;
 use model::fault::LinkFault;
 use model::fault::LinkFaultDebug;
@@ -34,98 +35,132 @@ pub enum Answer {
     StoreFull,
 }
 
-use Answer::Arrives;
-use Answer::Done;
-use Answer::Is;
-use Answer::Nothing;
-use Answer::Refused;
-use Answer::StoreFull;
-use Call::Capacity;
-use Call::Delay;
-use Call::First;
-use Call::Floor;
-use Call::Free;
-use Call::Null;
-use Call::Put;
-use Call::Take;
-use Call::Waiting;
-use LinkFault::BelowFloor;
-use LinkFault::Full;
-use LinkFault::NoSuchLink;
-use LinkFault::NothingWaits;
-use LinkFault::PastLastTime;
+fn arrival(event: Event<Parcel>) -> Answer {
+    Answer::Arrives(event.time, event.cargo.code())
+}
 
-fn done(answer: Result<(), LinkFault>) -> Answer {
+fn of_change(answer: Result<(), LinkFault>) -> Answer {
     match answer {
-        Ok(()) => Done,
-        Err(fault) => Refused(fault),
+        Ok(()) => Answer::Done,
+        Err(fault) => Answer::Refused(fault),
     }
 }
 
-fn arrives(event: Event<Parcel>) -> Answer {
-    Arrives(event.time, event.cargo.code())
-}
-
-fn number(answer: Result<u32, LinkFault>) -> Answer {
+fn of_number(answer: Result<u32, LinkFault>) -> Answer {
     match answer {
-        Ok(n) => Is(n),
-        Err(fault) => Refused(fault),
+        Ok(number) => Answer::Is(number),
+        Err(fault) => Answer::Refused(fault),
     }
 }
 
-fn first<L: Links<Parcel>>(links: &L, link: usize) -> Answer {
-    match links.first(link) {
-        Ok(Some(event)) => arrives(event),
-        Ok(None) => Nothing,
-        Err(fault) => Refused(fault),
+fn of_first(answer: Result<Option<Event<Parcel>>, LinkFault>) -> Answer {
+    match answer {
+        Ok(first) => match first {
+            Some(event) => arrival(event),
+            None => Answer::Nothing,
+        },
+        Err(fault) => Answer::Refused(fault),
     }
 }
 
-fn take<L: Links<Parcel>>(links: &mut L, link: usize) -> Answer {
-    match links.take(link) {
-        Ok(event) => arrives(event),
-        Err(fault) => Refused(fault),
+fn of_take(answer: Result<Event<Parcel>, LinkFault>) -> Answer {
+    match answer {
+        Ok(event) => arrival(event),
+        Err(fault) => Answer::Refused(fault),
     }
 }
 
-fn answer<L: Links<Parcel>>(links: &mut L, call: Call) -> Answer {
+fn ask<L: Links<Parcel>>(links: &mut L, call: Call) -> Answer {
     match call {
-        Put(link, time, n) => done(links.put(link, time, Parcel::new(n))),
-        Null(link, time) => done(links.null(link, time)),
-        First(link) => first(links, link),
-        Take(link) => take(links, link),
-        Floor(link) => number(links.floor(link)),
-        Delay(link) => number(links.delay(link)),
-        Waiting(link) => number(links.waiting(link)),
-        Free(link) => number(links.free(link)),
-        Capacity(link) => number(links.capacity(link)),
+        Call::Put(link, time, number) => of_change(links.put(link, time, Parcel::new(number))),
+        Call::Null(link, time) => of_change(links.null(link, time)),
+        Call::First(link) => of_first(links.first(link)),
+        Call::Take(link) => of_take(links.take(link)),
+        Call::Floor(link) => of_number(links.floor(link)),
+        Call::Delay(link) => of_number(links.delay(link)),
+        Call::Waiting(link) => of_number(links.waiting(link)),
+        Call::Free(link) => of_number(links.free(link)),
+        Call::Capacity(link) => of_number(links.capacity(link)),
     }
 }
 
-// Calls the links, under which the store is the layer of the given number, and compares what they answer.
+// Makes one call of links whose store is the layer of the given number, and compares the answer.
+pub fn expect<L: Links<Parcel>>(
+    links: &mut L,
+    store: u32,
+    call: Call,
+    answer: Answer,
+) -> Result<(), Fail> {
+    let expected = match answer {
+        Answer::StoreFull => Answer::Refused(LinkFault::Full(store)),
+        other => other,
+    };
+    check_eq(ask(links, call), expected)
+}
+
+// Makes the calls in their order, and compares each answer.
 pub fn follow<L: Links<Parcel>>(
     links: &mut L,
     store: u32,
     script: &[(Call, Answer)],
 ) -> Result<(), Fail> {
-    for (call, expected) in script {
-        let expected = match *expected {
-            StoreFull => Refused(Full(store)),
-            other => other,
-        };
-        check_eq(answer(links, *call), expected)?;
+    for (call, answer) in script {
+        expect(links, store, *call, *answer)?;
     }
     Ok(())
 }
 
-// Two links with four places each and no delay.
-pub const TWO_LINKS: [(Call, Answer); 8] = [
-    (Capacity(0), Is(4)),
-    (Free(1), Is(4)),
-    (Waiting(1), Is(0)),
-    (Floor(1), Is(0)),
-    (Delay(0), Is(0)),
-    (First(0), Nothing),
-    (Take(0), Refused(NothingWaits)),
-    (Take(2), Refused(NoSuchLink)),
-];
+// Goes round a link of four places many times, beside another on which two events stay.
+pub fn go_round<L: Links<Parcel>>(links: &mut L, store: u32) -> Result<(), Fail> {
+    follow(
+        links,
+        store,
+        &[
+            (Call::Put(0, 1, 91), Answer::Done),
+            (Call::Put(0, 2, 92), Answer::Done),
+        ],
+    )?;
+    for turn in 0..1000u32 {
+        let time = 3 * turn;
+        expect(links, store, Call::Put(1, time, turn), Answer::Done)?;
+        expect(
+            links,
+            store,
+            Call::Put(1, time + 1, turn + 5000),
+            Answer::Done,
+        )?;
+        expect(
+            links,
+            store,
+            Call::Put(1, time + 2, turn + 9000),
+            Answer::Done,
+        )?;
+        expect(links, store, Call::Take(1), Answer::Arrives(time, turn))?;
+        expect(
+            links,
+            store,
+            Call::Take(1),
+            Answer::Arrives(time + 1, turn + 5000),
+        )?;
+        expect(
+            links,
+            store,
+            Call::Take(1),
+            Answer::Arrives(time + 2, turn + 9000),
+        )?;
+        expect(
+            links,
+            store,
+            Call::Take(1),
+            Answer::Refused(LinkFault::NothingWaits),
+        )?;
+    }
+    follow(
+        links,
+        store,
+        &[
+            (Call::Take(0), Answer::Arrives(1, 91)),
+            (Call::Take(0), Answer::Arrives(2, 92)),
+        ],
+    )
+}
