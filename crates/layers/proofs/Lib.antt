@@ -1,0 +1,2 @@
+pub mod Delaying
+pub mod Freshness
