@@ -1,16 +1,17 @@
 -- Each layer keeps what every pile keeps.
 use mathlib.Core.Path.{_≡_, ap}
 use mathlib.Core.List.{List, [], map}
-use Prim.Native.Nat.{ℕ}
+use Prim.Native.Nat.{ℕ, _≤_, _<_}
 use native.Mathlib.Omega.{arith}
 use lib.ListN.{length}
 use Rattle.std.proofs.shelf.Lists.{length-map, nil-from-length}
 use Rattle.model.specs.Pile.{Pile, Sound}
 use Rattle.layers.specs.Delayed.{later, added, delayed}
+use Rattle.layers.specs.Rationed.{quota, rationed}
 
-module _ {C : Type 0} where
-  pub delayed-sound : (m : Pile C) (extra : List ℕ) → Sound m → Sound (delayed m extra)
-  delayed-sound m extra s =
+module _ {C : Type 0} (m : Pile C) where
+  pub delayed-sound : (extra : List ℕ) → Sound m → Sound (delayed m extra)
+  delayed-sound extra s =
       let as-many : (k : ℕ) → length (map (later (added m extra k)) (m .waiting k)) ≡ length (m .waiting k) =
         λ k. length-map (m .waiting k) (later (added m extra k)) in
       record {
@@ -22,3 +23,17 @@ module _ {C : Type 0} where
         room = λ k l. omega (arith, s .room k l, as-many k);
         clear = λ none k l.
           s .clear (λ j h. nil-from-length (m .waiting j) (omega (arith, as-many j, ap length (none j h)))) k l }
+
+  -- No more waits than the quota allows.
+  pub within-quota : (left : List ℕ) → Sound m → (k : ℕ) → k < m .count → length (m .waiting k) ≤ quota m left k
+  within-quota left s k l = omega (arith, s .room k l, s .wide k l)
+
+  pub rationed-sound : (left : List ℕ) → Sound m → Sound (rationed m left)
+  rationed-sound left s = record {
+      few = s .few;
+      near = s .near;
+      low = s .low;
+      not-none = λ k l. omega (arith, s .not-none k l);
+      wide = λ k l. omega (arith, s .wide k l);
+      room = λ k l. omega (arith, s .room k l, within-quota left s k l);
+      clear = λ none k l. omega (arith, s .clear none k l, ap length (none k l)) }

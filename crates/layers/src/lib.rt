@@ -2,3 +2,4 @@
 pub mod delay;
 mod fault;
 mod fresh;
+pub mod quota;
