@@ -12,6 +12,7 @@ use Rattle.model.specs.declared.fault.SettingFault.{SettingFault}
 use Rattle.model.specs.Sums.{largest}
 use Rattle.model.specs.Pile.{Pile, Fresh}
 use Rattle.model.specs.Linking.{Apart}
+use Rattle.layers.specs.Layer.{Setting}
 
 -- The longest delay of a link.
 abbrev pub longest-delay : ℕ
@@ -48,8 +49,12 @@ module _ {C : Type 0} where
     pub fresh : Fresh (delayed m extra) k
     pub near : m .delay k + d ≤ longest-delay
 
-  -- Over the links m, a layer p has become n: the link k has the delay d above the one below and is fresh as before, and
-  -- nothing else has changed.
+  -- What the table of the layer holds after the link k was to be set to the delay d.
+  abbrev pub DelayTable : Pile C → List ℕ → ℕ → ℕ → Result (Unit {0}) SettingFault → List ℕ → Type 0
+  DelayTable m extra k d r after = Setting (m .count) (DelaySuits m extra k d) extra k d r after
+
+  -- A layer p over the links m has become n: the link k is fresh, and has the delay d above the one below. Nothing else
+  -- has changed.
   pub record DelayDone (m p : Pile C) (k d : ℕ) (n : Pile C) : Type 0 where
     pub count : n .count ≡ p .count
     pub delay : n .delay k ≡ m .delay k + d
@@ -60,7 +65,7 @@ module _ {C : Type 0} where
     pub capacity : (j : ℕ) → j < p .count → n .capacity j ≡ p .capacity j
     pub quotas : (j : ℕ) → j < p .count → n .quotas j ≡ p .quotas j
 
-  -- What a layer p over the links m means after a setting of its link k to the delay d: a refusal changes nothing.
-  abbrev pub DelaySet : Pile C → Pile C → ℕ → ℕ → Result (Unit {0}) SettingFault → Pile C → Type 0
-  DelaySet m p k d (Ok done) n = DelayDone m p k d n
-  DelaySet m p k d (Err fault) n = n ≡ p
+  -- What the layer means after the link k was to be set to the delay d. A refusal changes nothing.
+  abbrev pub DelaySet : Pile C → List ℕ → ℕ → ℕ → Result (Unit {0}) SettingFault → Pile C → Type 0
+  DelaySet m extra k d (Ok done) n = DelayDone m (delayed m extra) k d n
+  DelaySet m extra k d (Err fault) n = n ≡ delayed m extra

@@ -11,6 +11,7 @@ use Rattle.model.specs.declared.fault.LinkFault.{LinkFault}
 use Rattle.model.specs.declared.fault.SettingFault.{SettingFault}
 use Rattle.model.specs.Pile.{Pile, Fresh}
 use Rattle.model.specs.Linking.{Timely, NullFails}
+use Rattle.layers.specs.Layer.{Setting}
 
 -- The largest quota of a link.
 abbrev pub largest-quota : ℕ
@@ -48,20 +49,24 @@ module _ {C : Type 0} where
     pub some : 1 ≤ q
     pub small : q ≤ largest-quota
 
-  -- Over the links m, a layer p has become n: the link k has the quota q, and nothing else has changed.
+  -- What the table of the layer holds after the link k was to be set to the quota q: nothing waits there, so all is left.
+  abbrev pub QuotaTable : Pile C → List ℕ → ℕ → ℕ → Result (Unit {0}) SettingFault → List ℕ → Type 0
+  QuotaTable m left k q r after = Setting (m .count) (QuotaSuits m left k q) left k q r after
+
+  -- A layer p over the links m has become n: the link k has the quota q. Nothing else has changed.
   pub record QuotaDone (m p : Pile C) (k q : ℕ) (n : Pile C) : Type 0 where
     pub count : n .count ≡ p .count
-    pub quota : n .quotas k ≡ Some q ∷ m .quotas k
-    pub free : n .free k ≡ min (m .free k) q
-    pub capacity : n .capacity k ≡ min q (m .capacity k)
     pub waiting : (j : ℕ) → j < p .count → n .waiting j ≡ p .waiting j
     pub floor : (j : ℕ) → j < p .count → n .floor j ≡ p .floor j
     pub delay : (j : ℕ) → j < p .count → n .delay j ≡ p .delay j
-    pub quotas : (j : ℕ) → j < p .count → j ≢ k → n .quotas j ≡ p .quotas j
-    pub frees : (j : ℕ) → j < p .count → j ≢ k → n .free j ≡ p .free j
-    pub capacities : (j : ℕ) → j < p .count → j ≢ k → n .capacity j ≡ p .capacity j
+    pub free : n .free k ≡ min (m .free k) q
+    pub capacity : n .capacity k ≡ min q (m .capacity k)
+    pub quotas : n .quotas k ≡ Some q ∷ m .quotas k
+    pub other-free : (j : ℕ) → j < p .count → j ≢ k → n .free j ≡ p .free j
+    pub other-capacity : (j : ℕ) → j < p .count → j ≢ k → n .capacity j ≡ p .capacity j
+    pub other-quotas : (j : ℕ) → j < p .count → j ≢ k → n .quotas j ≡ p .quotas j
 
-  -- What a layer p over the links m means after a setting of its link k to the quota q: a refusal changes nothing.
-  abbrev pub QuotaSet : Pile C → Pile C → ℕ → ℕ → Result (Unit {0}) SettingFault → Pile C → Type 0
-  QuotaSet m p k q (Ok done) n = QuotaDone m p k q n
-  QuotaSet m p k q (Err fault) n = n ≡ p
+  -- What the layer means after the link k was to be set to the quota q. A refusal changes nothing.
+  abbrev pub QuotaSet : Pile C → List ℕ → ℕ → ℕ → Result (Unit {0}) SettingFault → Pile C → Type 0
+  QuotaSet m left k q (Ok done) n = QuotaDone m (rationed m left) k q n
+  QuotaSet m left k q (Err fault) n = n ≡ rationed m left

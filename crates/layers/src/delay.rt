@@ -3,8 +3,8 @@ ghost use Prim.Native.Nat.{ℕ, _+_, _-_, _<_, _≤_, min};
 ghost use lib.ListN.{getD, length, replicate};
 ghost use mathlib.Core.Path.{_≡_};
 ghost use Rattle.std.specs.declared.option.Option.the-variants.{None};
-ghost use Rattle.layers.specs.Layer.{Laid, Setting};
-ghost use Rattle.layers.specs.Delayed.{delayed, added, later, DelaySuits, DelaySet};
+ghost use Rattle.layers.specs.Layer.{Laid};
+ghost use Rattle.layers.specs.Delayed.{delayed, added, later, DelayTable, DelaySet};
 ghost use Rattle.model.specs.Linking.{Asked};
 ghost use Rattle.layers.specs.Soundness.{delayed-sound};
 use crate::fault::passed_on;
@@ -62,8 +62,8 @@ impl<L> Delay<L> {
     where
         L: Links<C>,
         ensures below { λ _. ⌜ now (self .exit) .below ≡ now (self .entry) .below ⌝ }
-        ensures table { λ r. ⌜ Setting (L·Links .meaning (now (self .entry) .below) .count) (DelaySuits (L·Links .meaning (now (self .entry) .below)) (now (self .entry) .extra) link delay) (now (self .entry) .extra) link delay r (now (self .exit) .extra) ⌝ }
-        ensures meaning { λ r. ⌜ DelaySet (L·Links .meaning (now (self .entry) .below)) (delayed (L·Links .meaning (now (self .entry) .below)) (now (self .entry) .extra)) link delay r (delayed (L·Links .meaning (now (self .exit) .below)) (now (self .exit) .extra)) ⌝ }
+        ensures table { λ r. ⌜ DelayTable (L·Links .meaning (now (self .entry) .below)) (now (self .entry) .extra) link delay r (now (self .exit) .extra) ⌝ }
+        ensures meaning { λ r. ⌜ DelaySet (L·Links .meaning (now (self .entry) .below)) (now (self .entry) .extra) link delay r (delayed (L·Links .meaning (now (self .exit) .below)) (now (self .exit) .extra)) ⌝ }
     {
         let Ok(below) = self.below.delay(link) else {
             return Err(SettingFault::NoSuchLink);

@@ -3,8 +3,8 @@ ghost use Prim.Native.Nat.{ℕ, _+_, _-_, _<_, _≤_, min, max};
 ghost use lib.ListN.{getD, length, replicate};
 ghost use mathlib.Core.Path.{_≡_};
 ghost use Rattle.std.specs.declared.option.Option.the-variants.{Some};
-ghost use Rattle.layers.specs.Layer.{Laid, Setting};
-ghost use Rattle.layers.specs.Rationed.{rationed, quota, unused, TimeChecked, QuotaSuits, QuotaSet};
+ghost use Rattle.layers.specs.Layer.{Laid};
+ghost use Rattle.layers.specs.Rationed.{rationed, quota, unused, TimeChecked, QuotaTable, QuotaSet};
 ghost use Rattle.layers.specs.Soundness.{rationed-sound};
 ghost use Rattle.model.specs.Linking.{Asked};
 use crate::fault::passed_on;
@@ -57,8 +57,8 @@ impl<L> Quota<L> {
     where
         L: Links<C>,
         ensures below { λ _. ⌜ now (self .exit) .below ≡ now (self .entry) .below ⌝ }
-        ensures table { λ r. ⌜ Setting (L·Links .meaning (now (self .entry) .below) .count) (QuotaSuits (L·Links .meaning (now (self .entry) .below)) (now (self .entry) .left) link quota) (now (self .entry) .left) link quota r (now (self .exit) .left) ⌝ }
-        ensures meaning { λ r. ⌜ QuotaSet (L·Links .meaning (now (self .entry) .below)) (rationed (L·Links .meaning (now (self .entry) .below)) (now (self .entry) .left)) link quota r (rationed (L·Links .meaning (now (self .exit) .below)) (now (self .exit) .left)) ⌝ }
+        ensures table { λ r. ⌜ QuotaTable (L·Links .meaning (now (self .entry) .below)) (now (self .entry) .left) link quota r (now (self .exit) .left) ⌝ }
+        ensures meaning { λ r. ⌜ QuotaSet (L·Links .meaning (now (self .entry) .below)) (now (self .entry) .left) link quota r (rationed (L·Links .meaning (now (self .exit) .below)) (now (self .exit) .left)) ⌝ }
     {
         if !is_fresh(&self.below, link)? || quota == 0 || quota > LARGEST_QUOTA {
             return Err(SettingFault::Unsuitable);
