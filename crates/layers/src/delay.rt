@@ -18,6 +18,7 @@ use model::links::Links;
 // The longest delay of a link, all layers together.
 pub const LONGEST_DELAY: u32 = 1_000_000;
 
+// The links below, and what is added to the delay of each.
 #[derive(Drop)]
 pub struct Delay<L> {
     below: L,

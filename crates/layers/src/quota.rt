@@ -19,7 +19,7 @@ use model::links::Links;
 // The largest quota of a link.
 pub const LARGEST_QUOTA: u32 = 65_535;
 
-// Links below, and what is left of the quota of each.
+// The links below, and what is left of the quota of each.
 #[derive(Drop)]
 pub struct Quota<L> {
     below: L,
@@ -73,8 +73,8 @@ impl<L> Quota<L> {
         L: Links<C>,
         ensures { λ r. ⌜ Asked (L·Links .meaning (now (self .entry) .below)) link (quota (L·Links .meaning (now (self .entry) .below)) (now (self .entry) .left) link) r ⌝ }
     {
-        let waiting = self.below.waiting(link)?;
-        Ok(self.left[link].saturating_add(waiting).clamp(1, LARGEST_QUOTA))
+        let used = self.below.waiting(link)?;
+        Ok(self.left[link].saturating_add(used).clamp(1, LARGEST_QUOTA))
     }
 
     // How many more events the quota of a link lets wait.
