@@ -22,7 +22,7 @@ module _ {C : Type 0} (m : Pile C) (extra : List ℕ) (k : ℕ) where
   as-many : length (map (later (added m extra k)) (m .waiting k)) ≡ length (m .waiting k)
   as-many = length-map (m .waiting k) (later (added m extra k))
 
-  pub put-fails : (t : ℕ) (f : LinkFault) → PutFails m k t f → PutFails (delayed m extra) k t (lowered f)
+  put-fails : (t : ℕ) (f : LinkFault) → PutFails m k t f → PutFails (delayed m extra) k t (lowered f)
   put-fails t NoSuchLink h = h
   put-fails t PastLastTime h = h
   put-fails t BelowFloor h = (h .0, h .1, omega (arith, h .2))
@@ -30,6 +30,10 @@ module _ {C : Type 0} (m : Pile C) (extra : List ℕ) (k : ℕ) where
       (timely t (h .0), h .1,
       ap (λ l. plus l 1) (h .2) ∙ ap (λ waits. plus (spent-layer (m .quotas k) waits) 1) (sym as-many))
   put-fails t NothingWaits h = h
+
+  pub put-refused : (n : Pile C) (t : ℕ) (f : LinkFault) → PutFails m k t f → n ≡ m
+      → PutFails (delayed m extra) k t (lowered f) × (delayed n extra ≡ delayed m extra)
+  put-refused n t f h same = (put-fails t f h, ap (λ p. delayed p extra) same)
 
   pub fresh-below : Fresh (delayed m extra) k → Fresh m k
   fresh-below h = record {

@@ -13,16 +13,16 @@ use Rattle.model.specs.Sums.{largest}
 use Rattle.model.specs.Pile.{Pile, Sound}
 use Rattle.model.specs.Linking.{Steady, Apart, PutDone, TakeDone}
 use Rattle.layers.specs.Layer.{Laid}
-use Rattle.layers.specs.Rationed.{largest-quota, quota, unused, rationed}
+use Rattle.layers.specs.Rationed.{largest-quota, quota-of, unused, rationed}
 use Rattle.layers.specs.Soundness.{within-quota}
 
 -- The links m become n, and x is left of the quota of the link k, where that quota stays.
 module _ {C : Type 0} (m n : Pile C) (left : List ℕ) (k x : ℕ) (away : Apart m n k)
-    (same : quota n (set left k x) k ≡ quota m left k) where
+    (same : quota-of n (set left k x) k ≡ quota-of m left k) where
   -- Then all quotas stay.
-  quota-same : (j : ℕ) → j < m .count → quota n (set left k x) j ≡ quota m left j
+  quota-same : (j : ℕ) → j < m .count → quota-of n (set left k x) j ≡ quota-of m left j
   quota-same j l = ⊎-elim
-      (λ e. ap (λ i. quota n (set left k x) i) e ∙ same ∙ ap (λ i. quota m left i) (sym e))
+      (λ e. ap (λ i. quota-of n (set left k x) i) e ∙ same ∙ ap (λ i. quota-of m left i) (sym e))
       (λ ne. omega (arith, getD-set-other left k j x 0 ne, ap length (away .waiting j l ne)))
       (cases-eq j k)
 
@@ -32,7 +32,7 @@ module _ {C : Type 0} (m n : Pile C) (left : List ℕ) (k x : ℕ) (away : Apart
       settled = λ j l. let s = h .settled j l in record {
         delay = s .delay;
         capacity = omega (arith, s .capacity, quota-same j l);
-        quotas = ap (λ q. Some q ∷ n .quotas j) (quota-same j l) ∙ ap (λ qs. Some (quota m left j) ∷ qs) (s .quotas) } }
+        quotas = ap (λ q. Some q ∷ n .quotas j) (quota-same j l) ∙ ap (λ qs. Some (quota-of m left j) ∷ qs) (s .quotas) } }
 
   apart : Apart (rationed m left) (rationed n (set left k x)) k
   apart = record { waiting = away .waiting; floor = away .floor }
@@ -43,7 +43,7 @@ module _ {C : Type 0} (m n : Pile C) (left : List ℕ) (k x : ℕ) (here : k < l
   put-done t c one-used some h =
       let one-more : length (n .waiting k) ≡ length (m .waiting k) + 1 =
         ap length (h .waiting) ∙ length-push (m .waiting k) (record { time = t + m .delay k; cargo = c }) in
-      let same : quota n (set left k x) k ≡ quota m left k = omega (arith, getD-set-same left k x 0 here) in
+      let same : quota-of n (set left k x) k ≡ quota-of m left k = omega (arith, getD-set-same left k x 0 here) in
       record {
         timely = record { there = h .timely .there; soon = h .timely .soon; behind = h .timely .behind };
         steady = steady m n left k x (h .apart) same (h .steady);
@@ -62,7 +62,7 @@ module _ {C : Type 0} (m n : Pile C) (left : List ℕ) (k x : ℕ) (here : k < l
   take-done e one-back s h =
       let one-less : length (m .waiting k) ≡ length (n .waiting k) + 1 = omega (arith, ap length (h .waiting)) in
       let within = within-quota m left s k (h .there) in
-      let same : quota n (set left k x) k ≡ quota m left k = omega (arith, getD-set-same left k x 0 here) in
+      let same : quota-of n (set left k x) k ≡ quota-of m left k = omega (arith, getD-set-same left k x 0 here) in
       record {
         there = h .there;
         steady = steady m n left k x (h .apart) same (h .steady);

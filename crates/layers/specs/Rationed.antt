@@ -20,12 +20,12 @@ largest-quota = 65535
 module _ {C : Type 0} where
   -- The quota of the link k: what is left of it, and what waits. That is the setting as long as only the layer puts and
   -- takes, and then it is always from 1 to the largest quota.
-  abbrev pub quota : Pile C → List ℕ → ℕ → ℕ
-  quota m left k = max 1 (min (getD left k 0 + length (m .waiting k)) largest-quota)
+  abbrev pub quota-of : Pile C → List ℕ → ℕ → ℕ
+  quota-of m left k = max 1 (min (getD left k 0 + length (m .waiting k)) largest-quota)
 
   -- How many more events the quota of the link k lets wait.
   abbrev pub unused : Pile C → List ℕ → ℕ → ℕ
-  unused m left k = quota m left k - length (m .waiting k)
+  unused m left k = quota-of m left k - length (m .waiting k)
 
   -- The links m, with so much left of the quota of each.
   abbrev pub rationed : Pile C → List ℕ → Pile C
@@ -35,8 +35,8 @@ module _ {C : Type 0} where
     floor = m .floor;
     delay = m .delay;
     free = λ k. min (m .free k) (unused m left k);
-    capacity = λ k. min (quota m left k) (m .capacity k);
-    quotas = λ k. Some (quota m left k) ∷ m .quotas k }
+    capacity = λ k. min (quota-of m left k) (m .capacity k);
+    quotas = λ k. Some (quota-of m left k) ∷ m .quotas k }
 
   -- Whether an event or a null may be put on the link k at time t, as far as time goes.
   abbrev pub TimeChecked : Pile C → ℕ → ℕ → Result (Unit {0}) LinkFault → Type 0

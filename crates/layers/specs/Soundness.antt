@@ -7,7 +7,7 @@ use lib.ListN.{length}
 use Rattle.std.proofs.shelf.Lists.{length-map, nil-from-length}
 use Rattle.model.specs.Pile.{Pile, Sound}
 use Rattle.layers.specs.Delayed.{later, added, delayed}
-use Rattle.layers.specs.Rationed.{quota, rationed}
+use Rattle.layers.specs.Rationed.{quota-of, rationed}
 
 module _ {C : Type 0} (m : Pile C) where
   pub delayed-sound : (extra : List ℕ) → Sound m → Sound (delayed m extra)
@@ -25,7 +25,7 @@ module _ {C : Type 0} (m : Pile C) where
           s .clear (λ j h. nil-from-length (m .waiting j) (omega (arith, as-many j, ap length (none j h)))) k l }
 
   -- No more waits than the quota allows.
-  pub within-quota : (left : List ℕ) → Sound m → (k : ℕ) → k < m .count → length (m .waiting k) ≤ quota m left k
+  pub within-quota : (left : List ℕ) → Sound m → (k : ℕ) → k < m .count → length (m .waiting k) ≤ quota-of m left k
   within-quota left s k l = omega (arith, s .room k l, s .wide k l)
 
   pub rationed-sound : (left : List ℕ) → Sound m → Sound (rationed m left)

@@ -4,7 +4,7 @@ ghost use lib.ListN.{getD, length, replicate};
 ghost use mathlib.Core.Path.{_≡_};
 ghost use Rattle.std.specs.declared.option.Option.the-variants.{Some};
 ghost use Rattle.layers.specs.Layer.{Laid};
-ghost use Rattle.layers.specs.Rationed.{rationed, quota, unused, TimeChecked, QuotaTable, QuotaSet};
+ghost use Rattle.layers.specs.Rationed.{rationed, quota-of, unused, TimeChecked, QuotaTable, QuotaSet};
 ghost use Rattle.layers.specs.Soundness.{rationed-sound};
 ghost use Rattle.model.specs.Linking.{Asked};
 use crate::fault::passed_on;
@@ -71,7 +71,7 @@ impl<L> Quota<L> {
     fn quota<C: Cargo>(&self, link: usize) -> Result<u32, LinkFault>
     where
         L: Links<C>,
-        ensures { λ r. ⌜ Asked (L·Links .meaning (now (self .entry) .below)) link (quota (L·Links .meaning (now (self .entry) .below)) (now (self .entry) .left) link) r ⌝ }
+        ensures { λ r. ⌜ Asked (L·Links .meaning (now (self .entry) .below)) link (quota-of (L·Links .meaning (now (self .entry) .below)) (now (self .entry) .left) link) r ⌝ }
     {
         let used = self.below.waiting(link)?;
         Ok(self.left[link].saturating_add(used).clamp(1, LARGEST_QUOTA))

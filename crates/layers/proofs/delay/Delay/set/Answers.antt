@@ -1,5 +1,6 @@
 use mathlib.Core.Path.{refl}
 use native.Mathlib.Omega.{arith}
+use Rattle.layers.specs.Delayed.{delayed}
 use Rattle.layers.proofs.Delaying.{fresh-below}
 use Rattle.layers.proofs.delay.Delay.set.Needs as need
 use Rattle.layers.proofs.delay.Delay.set.Needs.{then-not-branch·by·then-not-branch, then-not-branch·by·else-not-branch·then-delay-below}
@@ -15,7 +16,7 @@ returns-then-not-branch g c =
     let m = g .L·Links .meaning (s .below) in
     let d = c .in-Ok .ensures tt in
     record {
-      below = refl;
+      below = refl {a = s .below};
       table = (d .0,
         (λ suits. elim (c .then-not-branch .came) [
           then-not-branch·by·then-not-branch w ↦
@@ -23,5 +24,5 @@ returns-then-not-branch g c =
               (fresh-below m (s .extra) (c .args .link) (suits .fresh))
           | then-not-branch·by·else-not-branch·then-delay-below w ↦
             omega (arith, w .if-delay-below .taken, suits .near, d .1) ]),
-        refl);
-      meaning = refl }
+        refl {a = s .extra});
+      meaning = refl {a = delayed m (s .extra)} }

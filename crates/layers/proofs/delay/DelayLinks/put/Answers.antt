@@ -1,6 +1,4 @@
-use mathlib.Core.Path.{ap}
-use Rattle.layers.specs.Delayed.{delayed}
-use Rattle.layers.proofs.Delaying.{put-done, put-fails}
+use Rattle.layers.proofs.Delaying.{put-done, put-refused}
 use Rattle.layers.proofs.delay.DelayLinks.put.Needs as need
 
 pub returns-in-Ok : need.returns-in-Ok
@@ -15,6 +13,6 @@ pub returns-in-Err : need.returns-in-Err
 returns-in-Err g c =
     let s = c .args .self .now in
     let h = c .in-Err .ensures tt in
-    (rw (c .passed-on .ensures)
-      (put-fails (g .L·Links .meaning (s .below)) (s .extra) (c .args .link) (c .args .time) (c .in-Err .fault) (h .0)),
-    ap (λ m. delayed m (s .extra)) (h .1))
+    rw (c .passed-on .ensures)
+      (put-refused (g .L·Links .meaning (s .below)) (s .extra) (c .args .link) (g .L·Links .meaning (c .put .last .self))
+        (c .args .time) (c .in-Err .fault) (h .0) (h .1))
