@@ -26,9 +26,11 @@ module _ {C : Type 0} (m : Pile C) (extra : List ℕ) (k : ℕ) where
   put-fails t NoSuchLink h = h
   put-fails t PastLastTime h = h
   put-fails t BelowFloor h = (h .0, h .1, omega (arith, h .2))
-  put-fails t (Full layer) h =
-      (timely t (h .0), h .1,
-      ap (λ l. plus l 1) (h .2) ∙ ap (λ waits. plus (spent-layer (m .quotas k) waits) 1) (sym as-many))
+  put-fails t (Full layer) h = (
+    timely t (h .0),
+    h .1,
+    ap (λ l. plus l 1) (h .2) ∙ ap (λ waits. plus (spent-layer (m .quotas k) waits) 1) (sym as-many),
+  )
   put-fails t NothingWaits h = h
 
   pub put-refused : (n : Pile C) (t : ℕ) (f : LinkFault) → PutFails m k t f → n ≡ m
@@ -37,8 +39,9 @@ module _ {C : Type 0} (m : Pile C) (extra : List ℕ) (k : ℕ) where
 
   pub fresh-below : Fresh (delayed m extra) k → Fresh m k
   fresh-below h = record {
-      empty = nil-from-length (m .waiting k) (omega (arith, as-many, ap length (h .empty)));
-      floor = omega (arith, h .floor) }
+    empty = nil-from-length (m .waiting k) (omega (arith, as-many, ap length (h .empty)));
+    floor = omega (arith, h .floor);
+  }
 
 -- The links m become n, and keep their delays: so what the layer adds stays.
 module _ {C : Type 0} (m n : Pile C) (extra : List ℕ) where
@@ -52,16 +55,19 @@ module _ {C : Type 0} (m n : Pile C) (extra : List ℕ) where
 
   steady : Steady m n → Steady (delayed m extra) (delayed n extra)
   steady h = record {
-      count = h .count;
-      settled = λ j l. let s = h .settled j l in record {
-        delay = omega (arith, s .delay, added-same j (s .delay));
-        capacity = s .capacity;
-        quotas = ap (λ qs. None ∷ qs) (s .quotas) } }
+    count = h .count;
+    settled = λ j l. let s = h .settled j l in record {
+      delay = omega (arith, s .delay, added-same j (s .delay));
+      capacity = s .capacity;
+      quotas = ap (λ qs. None ∷ qs) (s .quotas);
+    };
+  }
 
   apart : (k : ℕ) → Steady m n → Apart m n k → Apart (delayed m extra) (delayed n extra) k
   apart k s h = record {
-      waiting = λ j l ne. waiting-same j (m .waiting j) (s .settled j l .delay) (h .waiting j l ne);
-      floor = λ j l ne. omega (arith, h .floor j l ne, added-same j (s .settled j l .delay)) }
+    waiting = λ j l ne. waiting-same j (m .waiting j) (s .settled j l .delay) (h .waiting j l ne);
+    floor = λ j l ne. omega (arith, h .floor j l ne, added-same j (s .settled j l .delay));
+  }
 
   pub put-done : (k t : ℕ) (c : C) → m .delay k ≤ longest-delay → PutDone m k t c n
       → PutDone (delayed m extra) k t c (delayed n extra)
@@ -74,12 +80,13 @@ module _ {C : Type 0} (m n : Pile C) (extra : List ℕ) where
         steady = steady (h .steady);
         apart = apart k (h .steady) (h .apart);
         waiting =
-          waiting-same k (m .waiting k ++ (put (t + m .delay k) ∷ [])) same (h .waiting)
-          ∙ map-push (later (added m extra k)) (m .waiting k) (put (t + m .delay k))
-          ∙ ap (λ time. before ++ (put time ∷ [])) (omega (arith, h .timely .soon));
+            waiting-same k (m .waiting k ++ (put (t + m .delay k) ∷ [])) same (h .waiting)
+            ∙ map-push (later (added m extra k)) (m .waiting k) (put (t + m .delay k))
+            ∙ ap (λ time. before ++ (put time ∷ [])) (omega (arith, h .timely .soon));
         floor = omega (arith, h .floor, added-same k same);
         free = h .free;
-        falls = h .falls }
+        falls = h .falls;
+      }
 
 module _ {C : Type 0} where
   later-none : (es : List (Event C)) → map (later 0) es ≡ es
@@ -91,7 +98,7 @@ module _ {C : Type 0} where
   pub laid : (m : Pile C) → m .count ≤ 128 → Laid None m (delayed m (replicate 128 0))
   laid m few =
       let nothing : (k : ℕ) → k < m .count → added m (replicate 128 0) k ≡ 0 =
-        λ k l. omega (arith, getD-replicate {A = ℕ} 128 k 0 0 (omega arith)) in
+      λ k l. omega (arith, getD-replicate {A = ℕ} 128 k 0 0 (omega arith)) in
       record {
         count = refl;
         waiting = λ k l. ap (λ by. map (later {C = C} by) (m .waiting k)) (nothing k l) ∙ later-none (m .waiting k);
@@ -99,4 +106,5 @@ module _ {C : Type 0} where
         delay = λ k l. omega (arith, nothing k l);
         free = λ k l. refl;
         capacity = λ k l. refl;
-        quotas = λ k l. refl }
+        quotas = λ k l. refl;
+      }

@@ -13,9 +13,13 @@ use Rattle.layers.specs.Layer.{Freshness}
 module _ {C : Type 0} (m : Pile C) (k waits floor delay : ℕ) (there : k < m .count) (many : waits ≡ length (m .waiting k))
     (none : waits ≡ 0) (at : floor ≡ m .floor k) (from : delay ≡ m .delay k) where
   told : (equal : Bool) → eqb floor delay ≡ equal → Freshness m k (Ok equal)
-  told true e = (there, record {
+  told true e = (
+    there,
+    record {
       empty = nil-from-length (m .waiting k) (sym many ∙ none);
-      floor = sym at ∙ eqb-true floor delay e ∙ from })
+      floor = sym at ∙ eqb-true floor delay e ∙ from;
+    },
+  )
   told false e = (there, λ h. eqb-false floor delay e (at ∙ h .floor ∙ sym from))
 
   pub judged : Freshness m k (Ok (eqb floor delay))

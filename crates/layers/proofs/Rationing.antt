@@ -28,11 +28,13 @@ module _ {C : Type 0} (m n : Pile C) (left : List ℕ) (k x : ℕ) (away : Apart
 
   steady : Steady m n → Steady (rationed m left) (rationed n (set left k x))
   steady h = record {
-      count = h .count;
-      settled = λ j l. let s = h .settled j l in record {
-        delay = s .delay;
-        capacity = omega (arith, s .capacity, quota-same j l);
-        quotas = ap (λ q. Some q ∷ n .quotas j) (quota-same j l) ∙ ap (λ qs. Some (quota-of m left j) ∷ qs) (s .quotas) } }
+    count = h .count;
+    settled = λ j l. let s = h .settled j l in record {
+      delay = s .delay;
+      capacity = omega (arith, s .capacity, quota-same j l);
+      quotas = ap (λ q. Some q ∷ n .quotas j) (quota-same j l) ∙ ap (λ qs. Some (quota-of m left j) ∷ qs) (s .quotas);
+    };
+  }
 
   apart : Apart (rationed m left) (rationed n (set left k x)) k
   apart = record { waiting = away .waiting; floor = away .floor }
@@ -42,7 +44,7 @@ module _ {C : Type 0} (m n : Pile C) (left : List ℕ) (k x : ℕ) (here : k < l
       → PutDone (rationed m left) k t c (rationed n (set left k x))
   put-done t c one-used some h =
       let one-more : length (n .waiting k) ≡ length (m .waiting k) + 1 =
-        ap length (h .waiting) ∙ length-push (m .waiting k) (record { time = t + m .delay k; cargo = c }) in
+      ap length (h .waiting) ∙ length-push (m .waiting k) (record { time = t + m .delay k; cargo = c }) in
       let same : quota-of n (set left k x) k ≡ quota-of m left k = omega (arith, getD-set-same left k x 0 here) in
       record {
         timely = record { there = h .timely .there; soon = h .timely .soon; behind = h .timely .behind };
@@ -52,10 +54,11 @@ module _ {C : Type 0} (m n : Pile C) (left : List ℕ) (k x : ℕ) (here : k < l
         floor = h .floor;
         free = omega (arith, h .free);
         falls = λ j l ne.
-          let f = h .falls j l ne in
-          let q = quota-same m n left k x (h .apart) same j l in
-          let w = ap length (h .apart .waiting j l ne) in
-          (omega arith, omega arith) }
+            let f = h .falls j l ne in
+            let q = quota-same m n left k x (h .apart) same j l in
+            let w = ap length (h .apart .waiting j l ne) in
+            (omega arith, omega arith);
+      }
 
   pub take-done : (e : Event C) → x ≡ min (getD left k 0 + 1) largest → Sound m → TakeDone m k e n
       → TakeDone (rationed m left) k e (rationed n (set left k x))
@@ -71,15 +74,16 @@ module _ {C : Type 0} (m n : Pile C) (left : List ℕ) (k x : ℕ) (here : k < l
         floor = h .floor;
         free = omega (arith, h .free);
         rises = λ j l ne.
-          let f = h .rises j l ne in
-          let q = quota-same m n left k x (h .apart) same j l in
-          let w = ap length (h .apart .waiting j l ne) in
-          omega arith }
+            let f = h .rises j l ne in
+            let q = quota-same m n left k x (h .apart) same j l in
+            let w = ap length (h .apart .waiting j l ne) in
+            omega arith;
+      }
 
 pub laid : {C : Type 0} (m : Pile C) → Sound m → Laid (Some largest-quota) m (rationed m (replicate 128 largest-quota))
 laid m s =
     let all : (k : ℕ) → k < m .count → getD (replicate 128 largest-quota) k 0 ≡ largest-quota =
-      λ k l. getD-replicate 128 k largest-quota 0 (omega (arith, s .few)) in
+    λ k l. getD-replicate 128 k largest-quota 0 (omega (arith, s .few)) in
     record {
       count = refl;
       waiting = λ k l. refl;
@@ -87,4 +91,5 @@ laid m s =
       delay = λ k l. refl;
       free = λ k l. omega (arith, all k l, s .room k l, s .wide k l);
       capacity = λ k l. omega (arith, all k l, s .wide k l);
-      quotas = λ k l. ap (λ q. Some q ∷ m .quotas k) (omega (arith, all k l)) }
+      quotas = λ k l. ap (λ q. Some q ∷ m .quotas k) (omega (arith, all k l));
+    }

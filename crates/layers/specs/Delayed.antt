@@ -42,7 +42,8 @@ module _ {C : Type 0} where
     delay = λ k. m .delay k + added m extra k;
     free = m .free;
     capacity = m .capacity;
-    quotas = λ k. None ∷ m .quotas k }
+    quotas = λ k. None ∷ m .quotas k;
+  }
 
   -- The delay d suits the link k of the layer: the link is fresh, and the links below leave room for d.
   pub record DelaySuits (m : Pile C) (extra : List ℕ) (k d : ℕ) : Type 0 where

@@ -36,7 +36,8 @@ module _ {C : Type 0} where
     delay = m .delay;
     free = λ k. min (m .free k) (unused m left k);
     capacity = λ k. min (quota-of m left k) (m .capacity k);
-    quotas = λ k. Some (quota-of m left k) ∷ m .quotas k }
+    quotas = λ k. Some (quota-of m left k) ∷ m .quotas k;
+  }
 
   -- Whether an event or a null may be put on the link k at time t, as far as time goes.
   abbrev pub TimeChecked : Pile C → ℕ → ℕ → Result (Unit {0}) LinkFault → Type 0

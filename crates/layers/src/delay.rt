@@ -1,6 +1,5 @@
 //! A layer that adds a delay of its own to each link.
-ghost use Prim.Native.Nat.{ℕ, _+_, _-_, _<_, _≤_, min};
-ghost use lib.ListN.{getD, length, replicate};
+ghost use lib.ListN.{replicate};
 ghost use mathlib.Core.Path.{_≡_};
 ghost use Rattle.std.specs.declared.option.Option.the-variants.{None};
 ghost use Rattle.layers.specs.Layer.{Laid};
@@ -36,7 +35,10 @@ fn no_delays() -> [u32; 128]
 fn postponed<C: Cargo>(event: Event<C>, by: u32) -> Event<C>
     ensures { λ r. ⌜ r ≡ later by event ⌝ }
 {
-    Event { time: event.time.saturating_add(by), cargo: event.cargo }
+    Event {
+        time: event.time.saturating_add(by),
+        cargo: event.cargo,
+    }
 }
 
 impl<L> Delay<L> {
@@ -47,7 +49,10 @@ impl<L> Delay<L> {
         ensures held { λ r. ⌜ (r .below ≡ below) × (r .extra ≡ replicate 128 0) ⌝ }
         ensures meaning { λ r. ⌜ Laid None (L·Links .meaning below) (delayed (L·Links .meaning (r .below)) (r .extra)) ⌝ }
     {
-        Delay { below, extra: no_delays() }
+        Delay {
+            below,
+            extra: no_delays(),
+        }
     }
 
     // The links below, as they stand.

@@ -9,6 +9,9 @@ pub fn passed_on(fault: LinkFault) -> LinkFault
 {
     match fault {
         LinkFault::Full(layer) => LinkFault::Full(layer.saturating_add(1)),
-        LinkFault::NoSuchLink | LinkFault::PastLastTime | LinkFault::BelowFloor | LinkFault::NothingWaits => fault,
+        LinkFault::NoSuchLink
+        | LinkFault::PastLastTime
+        | LinkFault::BelowFloor
+        | LinkFault::NothingWaits => fault,
     }
 }

@@ -1,6 +1,5 @@
 //! A layer that lets only so many events wait on each link.
-ghost use Prim.Native.Nat.{ℕ, _+_, _-_, _<_, _≤_, min, max};
-ghost use lib.ListN.{getD, length, replicate};
+ghost use lib.ListN.{replicate};
 ghost use mathlib.Core.Path.{_≡_};
 ghost use Rattle.std.specs.declared.option.Option.the-variants.{Some};
 ghost use Rattle.layers.specs.Layer.{Laid};
@@ -41,7 +40,10 @@ impl<L> Quota<L> {
         ensures held { λ r. ⌜ (r .below ≡ below) × (r .left ≡ replicate 128 65535) ⌝ }
         ensures meaning { λ r. ⌜ Laid (Some 65535) (L·Links .meaning below) (rationed (L·Links .meaning (r .below)) (r .left)) ⌝ }
     {
-        Quota { below, left: largest_quotas() }
+        Quota {
+            below,
+            left: largest_quotas(),
+        }
     }
 
     // The links below, as they stand.

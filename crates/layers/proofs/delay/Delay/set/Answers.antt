@@ -17,12 +17,16 @@ returns-then-not-branch g c =
     let d = c .in-Ok .ensures tt in
     record {
       below = refl {a = s .below};
-      table = (d .0,
+      table = (
+        d .0,
         (λ suits. elim (c .then-not-branch .came) [
-          then-not-branch·by·then-not-branch w ↦
-            (rw (w .if-not-branch .taken) at (c .in-Continue-is-fresh .ensures tt)) .1
+          | then-not-branch·by·then-not-branch w ↦
+              (rw (w .if-not-branch .taken) at (c .in-Continue-is-fresh .ensures tt)) .1
               (fresh-below m (s .extra) (c .args .link) (suits .fresh))
           | then-not-branch·by·else-not-branch·then-delay-below w ↦
-            omega (arith, w .if-delay-below .taken, suits .near, d .1) ]),
-        refl {a = s .extra});
-      meaning = refl {a = delayed m (s .extra)} }
+              omega (arith, w .if-delay-below .taken, suits .near, d .1)
+        ]),
+        refl {a = s .extra},
+      );
+      meaning = refl {a = delayed m (s .extra)};
+    }

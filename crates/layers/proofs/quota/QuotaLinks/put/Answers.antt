@@ -11,5 +11,5 @@ returns-in-Ok g c =
     let u = c .in-Continue-unused .ensures tt in
     let here : c .args .link < length (s .left) = omega (arith, h .timely .there, g .L·Links .sound (s .below) .few) in
     put-done (g .L·Links .meaning (s .below)) (g .L·Links .meaning (c .put .last .self)) (s .left) (c .args .link)
-      (c .saturating-sub .result) here (c .args .time) (c .args .cargo) (c .saturating-sub .ensures)
-      (λ none. c .if-branch-eq0 .left (omega (arith, none, u .1))) h
+    (c .saturating-sub .result) here (c .args .time) (c .args .cargo) (c .saturating-sub .ensures)
+    (λ none. c .if-branch-eq0 .left (omega (arith, none, u .1))) h

@@ -10,5 +10,5 @@ returns g c =
     let h = c .in-Continue-event .ensures tt in
     let here : c .args .link < length (s .left) = omega (arith, h .there, g .L·Links .sound (s .below) .few) in
     take-done (g .L·Links .meaning (s .below)) (g .L·Links .meaning (c .take .last .self)) (s .left) (c .args .link)
-      (c .saturating-add .result) here (c .in-Continue-event .event) (c .saturating-add .ensures)
-      (g .L·Links .sound (s .below)) h
+    (c .saturating-add .result) here (c .in-Continue-event .event) (c .saturating-add .ensures)
+    (g .L·Links .sound (s .below)) h
