@@ -1,0 +1,19 @@
+-- Bytes written into a part of a buffer.
+use mathlib.Core.Path.{_≡_, refl, sym, ap, _∙_}
+use mathlib.Core.List.{List, _++_, append-assoc}
+use Prim.Native.Nat.{ℕ, _+_, _-_, _≤_}
+use native.Mathlib.Omega.{arith}
+use lib.ListN.{length, take, drop}
+use borrow.Rule.Slice.PartMut.{putMid}
+use Rattle.std.proofs.shelf.Lists.{drop-drop}
+use Rattle.text.specs.Writing.{Placed}
+
+-- a buffer whose part from `at` to `end` now holds the bytes
+pub placed : (before bytes part : List ℕ) (at end : ℕ) → end ≡ at + length bytes → end ≤ length before → part ≡ bytes → Placed before at bytes end (putMid at (end - at) before part)
+placed before bytes part at end e fits same =
+    let back : at + (end - at) ≡ end = omega arith in
+    record {
+      ends = e;
+      fits = fits;
+      holds = (λ i. take at before ++ (same i ++ (drop-drop (end - at) at before ∙ ap (λ k. drop k before) back) i));
+    }

@@ -1,0 +1,3 @@
+// Text as bytes: lines and their fields read, decimal numbers read and written.
+pub mod bytes;
+pub mod lines;
