@@ -1,2 +1,5 @@
 pub mod LineEnds
+pub mod OneDigitMore
 pub mod Pieces
+pub mod ReadBack
+pub mod TenthPart

@@ -5,7 +5,7 @@ use Prim.Native.Nat.{ℕ, _+_, _-_, _≤_}
 use native.Mathlib.Omega.{arith}
 use lib.ListN.{length, take, drop}
 use borrow.Rule.Slice.PartMut.{putMid}
-use Rattle.std.proofs.shelf.Lists.{drop-drop}
+use Rattle.std.proofs.shelf.Lists.{drop-drop, take-at}
 use Rattle.text.specs.Writing.{Placed}
 
 -- a buffer whose part from `at` to `end` now holds the bytes
@@ -17,3 +17,9 @@ placed before bytes part at end e fits same =
       fits = fits;
       holds = (λ i. take at before ++ (same i ++ (drop-drop (end - at) at before ∙ ap (λ k. drop k before) back) i));
     }
+
+-- bytes put at the front of a buffer are its part up to where they end
+pub front-part : {before bytes after : List ℕ} {end : ℕ} → Placed before 0 bytes end after → take (end - 0) after ≡ bytes
+front-part {before} {bytes} {after} {end} p =
+    let e : end - 0 ≡ length bytes = omega (arith, p .ends) in
+    ap (λ k. take k after) e ∙ ap (take (length bytes)) (p .holds) ∙ take-at bytes (drop end before) (length bytes) refl

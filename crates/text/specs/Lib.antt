@@ -1,2 +1,3 @@
+pub mod Decimal
 pub mod Lines
 pub mod Writing

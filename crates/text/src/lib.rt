@@ -1,3 +1,4 @@
 // Text as bytes: lines and their fields read, decimal numbers read and written.
 pub mod bytes;
 pub mod lines;
+pub mod numbers;

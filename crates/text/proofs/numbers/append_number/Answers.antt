@@ -1,0 +1,23 @@
+use mathlib.Core.Path.{ap, _∙_}
+use mathlib.Core.Bool.{cond}
+use mathlib.Core.List.{_++_}
+use native.Mathlib.Omega.{arith}
+use lib.ListN.{length}
+use Rattle.std.specs.Of.Vec.{vec-items}
+use Rattle.std.specs.Results.{isOk}
+use Rattle.text.proofs.Pieces.{front-part}
+use Rattle.text.proofs.TenthPart.{few-digits}
+use Rattle.text.proofs.numbers.append_number.Needs as need
+
+pub put-digits-count-requires : need.put-digits-count-requires
+put-digits-count-requires c κs = few-digits 20 (c .args .n) (omega arith) (omega arith) (omega arith)
+
+pub returns : need.returns
+returns c =
+    let e = front-part (c .put-digits-count .ensures) in
+    let before = vec-items (c .args .out .now) in
+    record {
+      items = c .extend-from-slice .ensures .items ∙ ap (λ ds. cond (isOk (c .extend-from-slice .result)) (before ++ ds) before) e;
+      succeeds = λ l. c .extend-from-slice .ensures .succeeds (omega (arith, ap length e));
+      capacity = c .extend-from-slice .ensures .capacity;
+    }
