@@ -1,3 +1,4 @@
+pub mod FieldSteps
 pub mod LineEnds
 pub mod OneDigitMore
 pub mod Pieces

@@ -1,6 +1,7 @@
-use mathlib.Core.Path.{ap, _∙_}
+use mathlib.Core.Path.{_≡_, ap, subst}
 use mathlib.Core.Bool.{cond}
-use mathlib.Core.List.{_++_}
+use mathlib.Core.List.{List, _++_}
+use Prim.Native.Nat.{ℕ}
 use native.Mathlib.Omega.{arith}
 use lib.ListN.{length}
 use Rattle.std.specs.Of.Vec.{vec-items}
@@ -17,7 +18,9 @@ returns c =
     let e = front-part (c .put-digits-count .ensures) in
     let before = vec-items (c .args .out .now) in
     record {
-      items = c .extend-from-slice .ensures .items ∙ ap (λ ds. cond (isOk (c .extend-from-slice .result)) (before ++ ds) before) e;
+      items =
+        subst (λ (ds : List ℕ). vec-items (c .extend-from-slice .last .self) ≡ cond (isOk (c .extend-from-slice .result)) (before ++ ds) before)
+        e (c .extend-from-slice .ensures .items);
       succeeds = λ l. c .extend-from-slice .ensures .succeeds (omega (arith, ap length e));
       capacity = c .extend-from-slice .ensures .capacity;
     }
