@@ -1,3 +1,4 @@
+pub mod FieldGrammar
 pub mod FieldSteps
 pub mod LineEnds
 pub mod OneDigitMore

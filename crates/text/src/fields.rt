@@ -3,6 +3,7 @@ ghost use mathlib.Core.Path.{_≡_};
 ghost use mathlib.Core.List.{map};
 ghost use lib.ListN.{set};
 ghost use Rattle.text.specs.Fields.{Answer, cutLine, filled, found};
+ghost use Rattle.text.specs.Grammar.{Grammar};
 
 // A quote misplaced or unclosed, or a byte outside 32 to 126, in the field of this number, counted from 1.
 #[derive(Clone, Copy, Debug, PartialEq)]
@@ -24,6 +25,7 @@ enum State {
 pub fn cut_fields<'a>(line: &'a [u8], out: &mut [&'a [u8]]) -> Result<usize, Malformed>
     ensures answer { λ r. ⌜ Answer (cutLine (now (line .entry))) r ⌝ }
     ensures places { λ _. ⌜ map now (now (out .exit)) ≡ filled (map now (now (out .entry))) (found (cutLine (now (line .entry)))) ⌝ }
+    ensures grammar { λ _. ⌜ Grammar (now (line .entry)) ⌝ }
 {
     let mut count = 0;
     let mut state = State::Start;
