@@ -141,15 +141,15 @@ one-more : (b : ℕ) (bs : List ℕ) → Parts bs → (s : State) (field text : 
 one-more b bs parts s field text g reach opens e =
     subst (λ l. Parted l (cut Quoted [] bs)) (append-assoc text (b ∷ []) bs)
     (parts Quoted [] (text ++ b ∷ []) (opened s field text b g e)
-      (λ rest. ap cutLine (append-assoc text (b ∷ []) rest) ∙ reach (b ∷ rest) ∙ by-step s field b rest opens e))
+    (λ rest. ap cutLine (append-assoc text (b ∷ []) rest) ∙ reach (b ∷ rest) ∙ by-step s field b rest opens e))
 one-more b bs parts s field text g reach (keeps t) e =
     subst (λ l. Parted l (cut t (field ++ b ∷ []) bs)) (append-assoc text (b ∷ []) bs)
     (parts t (field ++ b ∷ []) (text ++ b ∷ []) (kept s t field text b g e)
-      (λ rest. ap cutLine (append-assoc text (b ∷ []) rest) ∙ reach (b ∷ rest) ∙ by-step s field b rest (keeps t) e))
+    (λ rest. ap cutLine (append-assoc text (b ∷ []) rest) ∙ reach (b ∷ rest) ∙ by-step s field b rest (keeps t) e))
 one-more b bs parts s field text g reach closes e =
     subst (λ l. Parted l (cut AfterQuote field bs)) (append-assoc text (b ∷ []) bs)
     (parts AfterQuote field (text ++ b ∷ []) (closed s field text b g e)
-      (λ rest. ap cutLine (append-assoc text (b ∷ []) rest) ∙ reach (b ∷ rest) ∙ by-step s field b rest closes e))
+    (λ rest. ap cutLine (append-assoc text (b ∷ []) rest) ∙ reach (b ∷ rest) ∙ by-step s field b rest closes e))
 one-more b bs parts s field text g reach ends e =
     let p = ended s b e in
     subst (λ a. Parted (text ++ a ∷ bs) (onto field (cutLine bs))) (sym (p .0))
@@ -159,7 +159,7 @@ one-more b bs parts s field text g reach breaks e = faulty (text ++ b ∷ bs) (r
 parts-all : (bs : List ℕ) → Parts bs
 parts-all [] = ends-parted
 parts-all (b ∷ bs) = λ s field text g reach.
-  subst (Parted (text ++ b ∷ bs)) (sym (by-step s field b bs (step s b) refl)) (one-more b bs (parts-all bs) s field text g reach (step s b) refl)
+    subst (Parted (text ++ b ∷ bs)) (sym (by-step s field b bs (step s b) refl)) (one-more b bs (parts-all bs) s field text g reach (step s b) refl)
 
 cut-parted : (line : List ℕ) → Parted line (cutLine line)
 cut-parted line = parts-all line Start [] [] (refl, refl) (λ rest. refl)

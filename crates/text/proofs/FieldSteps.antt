@@ -173,7 +173,6 @@ one-more {before} f h so w = record {
   holds = put-one before (h .done) f (h .counted) (h .holds) w;
 }
 
-
 -- what the reader leaves at a malformed field
 pub stopped : {line : List ℕ} {s : State} (before : List (List ℕ)) {out : List (List ℕ)} {count start end i : ℕ} (h : Held line s before out count start end i) → cutLine line ≡ broken (h .done) → (cutLine line ≡ broken (found (cutLine line))) × (count + 1 ≡ length (found (cutLine line)) + 1) × (out ≡ filled before (found (cutLine line)))
 stopped before h e =
@@ -183,7 +182,8 @@ stopped before h e =
 -- what it leaves once the last field is at its place
 pub ended-well : {line : List ℕ} {s : State} (before : List (List ℕ)) {out out′ : List (List ℕ)} {count start end i : ℕ} (f : List ℕ) (h : Held line s before out count start end i) → cutLine line ≡ whole (h .done ++ f ∷ []) → out′ ≡ set out count f → (cutLine line ≡ whole (found (cutLine line))) × (count + 1 ≡ length (found (cutLine line))) × (out′ ≡ filled before (found (cutLine line)))
 ended-well before f h e w =
-    let same = ap found e in
-    (e ∙ ap whole (sym same),
+    let same = ap found e in (
+      e ∙ ap whole (sym same),
       omega (arith, ap length same, length-push (h .done) f, h .counted),
-      put-one before (h .done) f (h .counted) (h .holds) w ∙ ap (filled before) (sym same))
+      put-one before (h .done) f (h .counted) (h .holds) w ∙ ap (filled before) (sym same),
+    )

@@ -13,11 +13,17 @@ use Rattle.std.specs.declared.option.Option.{Option}
 use Rattle.std.specs.declared.option.Option.the-variants.{Some, None}
 use Rattle.std.proofs.shelf.Lists.{take-rest, take-append-drop, drop-more, length-take-le, getD-take, drop-all}
 use Rattle.std.proofs.shelf.Tests.{eq-eqb, ne-eqb, cases-eq, and-right}
-use Rattle.text.specs.Lines.{FirstLine, linesOf, withoutCr, onto}
+use Rattle.text.specs.Lines.{FirstLine, linesOf, onto}
 
 -- no LF before i
 abbrev pub Clear : List ℕ → ℕ → Type 0
 Clear xs i = (k : ℕ) → k < i → getD xs k 0 ≡ 10 → ⊥
+
+-- what stands before an LF, without a CR at its end
+abbrev withoutCr : List ℕ → List ℕ
+withoutCr [] = []
+withoutCr (b ∷ []) = cond (eqb b 13) [] (b ∷ [])
+withoutCr (b ∷ c ∷ bs) = b ∷ withoutCr (c ∷ bs)
 
 -- nothing but a CR is taken off
 stripped : (xs : List ℕ) → (xs ≡ withoutCr xs) ⊎ (xs ≡ withoutCr xs ++ 13 ∷ [])
@@ -73,8 +79,8 @@ at-lf : {text line : List ℕ} (front : List ℕ) {rest : List ℕ} → text ≡
 at-lf {text} {line} front {rest} whole clear w = record {
   lines = ap linesOf whole ∙ lines-at-lf front rest clear ∙ ap (λ x. x ∷ linesOf rest) (sym w);
   split = ⊎-elim (λ e. inl (whole ∙ ap (λ x. x ++ 10 ∷ rest) (e ∙ sym w)))
-    (λ e. inr (inl (whole ∙ ap (λ x. x ++ 10 ∷ rest) (e ∙ ap (λ x. x ++ 13 ∷ []) (sym w)) ∙ append-assoc line (13 ∷ []) (10 ∷ rest))))
-    (stripped front);
+      (λ e. inr (inl (whole ∙ ap (λ x. x ++ 10 ∷ rest) (e ∙ ap (λ x. x ++ 13 ∷ []) (sym w)) ∙ append-assoc line (13 ∷ []) (10 ∷ rest))))
+      (stripped front);
   shorter = omega (arith, ap length whole, length-append front (10 ∷ rest));
 }
 

@@ -47,8 +47,8 @@ module _ (n : ℕ) {before mid : List ℕ} {end : ℕ} (h : Front n before mid e
         ends = omega (arith, long);
         fits = omega (arith, long);
         holds =
-          ap (λ x. set x end (48 + n % 10)) whole
-          ∙ set-at (tenths n) _ _ (48 + n % 10) end (sym (h .ends))
-          ∙ sym (append-assoc (tenths n) _ _)
-          ∙ ap (λ x. x ++ drop (end + 1) before) (sym (tenth-part n));
+            ap (λ x. set x end (48 + n % 10)) whole
+            ∙ set-at (tenths n) _ _ (48 + n % 10) end (sym (h .ends))
+            ∙ sym (append-assoc (tenths n) _ _)
+            ∙ ap (λ x. x ++ drop (end + 1) before) (sym (tenth-part n));
       }

@@ -96,9 +96,9 @@ module _ (n : ℕ) (l : n < 2 ^ 64) where
   digits-unpadded =
       rw (digits-decimal n l)
       (unpadded-from (decimal n) (decimal-some n l) (λ z.
-        ⊎-elim (λ p. absurd (omega (arith, first-decimal n p l)))
-        (λ p. let e : n ≡ 0 = omega arith in ap length (ap decimal e ∙ decimal-digit 0 (omega arith)))
-        (cases-lt 0 n)))
+      ⊎-elim (λ p. absurd (omega (arith, first-decimal n p l)))
+      (λ p. let e : n ≡ 0 = omega arith in ap length (ap decimal e ∙ decimal-digit 0 (omega arith)))
+      (cases-lt 0 n)))
 
   digits-digits : allDigits (digits n) ≡ true
   digits-digits = rw (digits-decimal n l) (decimal-digits own n l)
@@ -133,10 +133,12 @@ same-by xs ys r h = search (needs, sameBytes-decides)
 -- bytes are the digits of n exactly where n is read from them
 pub spelled : (bs : List ℕ) (n : ℕ) → n < 2 ^ 32 → (o : Option ℕ) (r : Bool) → o ≡ numberOf bs → Cases o (r ≡ false) (λ m. Decides r (m ≡ n)) → r ≡ sameBytes bs (digits n)
 spelled bs n l None r e h =
-    same-by bs (digits n) r
-    ((λ t. let z : _≡_ {A = ℕ} 0 1 = cc in absurd (omega arith)),
-      λ d. let z : _≡_ {A = ℕ} 0 1 = cc (ap numberOf d, read-digits n l) in absurd (omega arith))
+    same-by bs (digits n) r (
+      (λ t. let z : _≡_ {A = ℕ} 0 1 = cc in absurd (omega arith)),
+      λ d. let z : _≡_ {A = ℕ} 0 1 = cc (ap numberOf d, read-digits n l) in absurd (omega arith),
+    )
 spelled bs n l (Some m) r e h =
-    same-by bs (digits n) r
-    ((λ t. only-digits bs n (sym e ∙ ap Some (h .0 t))),
-      λ d. h .1 (let q : Some m ≡ Some n = e ∙ ap numberOf d ∙ read-digits n l in cc))
+    same-by bs (digits n) r (
+      (λ t. only-digits bs n (sym e ∙ ap Some (h .0 t))),
+      λ d. h .1 (let q : Some m ≡ Some n = e ∙ ap numberOf d ∙ read-digits n l in cc),
+    )

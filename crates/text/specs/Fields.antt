@@ -55,11 +55,11 @@ abbrev pub cut : State → List ℕ → List ℕ → Cut
 cut s field [] = finish s field
 cut s field (b ∷ bs) =
     elim (step s b) [
-      opens ↦ cut Quoted [] bs
-    | keeps t ↦ cut t (field ++ b ∷ []) bs
-    | closes ↦ cut AfterQuote field bs
-    | ends ↦ onto field (cut Start [] bs)
-    | breaks ↦ broken []
+      | opens ↦ cut Quoted [] bs
+      | keeps t ↦ cut t (field ++ b ∷ []) bs
+      | closes ↦ cut AfterQuote field bs
+      | ends ↦ onto field (cut Start [] bs)
+      | breaks ↦ broken []
     ]
 
 abbrev pub cutLine : List ℕ → Cut

@@ -22,12 +22,6 @@ abbrev pub linesOf : List ℕ → List (List ℕ)
 linesOf [] = []
 linesOf (b ∷ bs) = cond (eqb b 10) ([] ∷ linesOf bs) (cond (eqb b 13 && beginsLf bs) (linesOf bs) (onto b (linesOf bs)))
 
--- what stands before an LF, without a CR at its end
-abbrev pub withoutCr : List ℕ → List ℕ
-withoutCr [] = []
-withoutCr (b ∷ []) = cond (eqb b 13) [] (b ∷ [])
-withoutCr (b ∷ c ∷ bs) = b ∷ withoutCr (c ∷ bs)
-
 -- a text is its first line, that line's end and the rest, or one line without an end
 abbrev pub Split : List ℕ → List ℕ → List ℕ → Type 0
 Split text line rest = (text ≡ line ++ (10 ∷ rest)) ⊎ ((text ≡ line ++ (13 ∷ 10 ∷ rest)) ⊎ ((text ≡ line) × (rest ≡ [])))

@@ -12,7 +12,10 @@ ghost use Rattle.text.specs.Writing.{Placed, Put};
 use crate::bytes::put_bytes;
 use std::alloc::AllocError;
 
-// The digits of the largest u64.
+// The largest number that is read.
+const LARGEST: u64 = 0xffff_ffff;
+
+// How many digits the largest u64 has.
 const MOST_DIGITS: usize = 20;
 
 // The number below 2^32 that the bytes write in decimal, without leading zeros.
@@ -28,7 +31,7 @@ pub fn read_number(bytes: &[u8]) -> Option<u32>
             return None;
         }
         value = value * 10 + u64::from(*byte - b'0');
-        if value > 0xffff_ffff {
+        if value > LARGEST {
             return None;
         }
     }

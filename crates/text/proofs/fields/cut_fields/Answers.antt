@@ -25,23 +25,23 @@ loop-i-again c =
     let h = c .loop-i .inv in
     let does = step (c .loop-i .state) (getD (c .args .line .now) (c .loop-i .i) 0) in
     elim (c .match-state .came) [
-      in-Start-eq34 w ↦
-        let e : opens ≡ does = search needs in
-        simp (w .count-is, w .out-is, w .state-is, w .start-is, w .end-is) (on h (opened _ _ _ _ _ _ (h .so) (c .loop-i-test .taken) e))
-    | in-Quoted-eq34 w ↦
-        let e : closes ≡ does = search needs in
-        simp (w .count-is, w .out-is, w .state-is, w .start-is, w .end-is) (on h (closed _ _ _ _ _ _ (h .so) (c .loop-i-test .taken) e))
-    | in-Quoted-32-to-126 w ↦
-        let e : keeps (c .loop-i .state) ≡ does = search needs in
-        simp (w .count-is, w .out-is, w .state-is, w .start-is, w .end-is) (on h (kept _ _ _ _ _ _ (h .so) (c .loop-i-test .taken) (c .loop-i .state) e))
-    | in-Start-eq44 w ↦
-        let e : ends ≡ does = search needs in
-        let f = between (c .loop-i .start) (c .loop-i .end) (c .args .line .now) in
-        simp (w .count-is, w .out-is, w .state-is, w .start-is, w .end-is)
-        (one-more f h (ended _ _ _ _ _ _ (h .so) (c .loop-i-test .taken) e) (w .place .ensures))
-    | in-Start-eq32 w ↦
-        let e : keeps Plain ≡ does = search needs in
-        simp (w .count-is, w .out-is, w .state-is, w .start-is, w .end-is) (on h (kept _ _ _ _ _ _ (h .so) (c .loop-i-test .taken) Plain e))
+      | in-Start-eq34 w ↦
+          let e : opens ≡ does = search needs in
+          simp (w .count-is, w .out-is, w .state-is, w .start-is, w .end-is) (on h (opened _ _ _ _ _ _ (h .so) (c .loop-i-test .taken) e))
+      | in-Quoted-eq34 w ↦
+          let e : closes ≡ does = search needs in
+          simp (w .count-is, w .out-is, w .state-is, w .start-is, w .end-is) (on h (closed _ _ _ _ _ _ (h .so) (c .loop-i-test .taken) e))
+      | in-Quoted-32-to-126 w ↦
+          let e : keeps (c .loop-i .state) ≡ does = search needs in
+          simp (w .count-is, w .out-is, w .state-is, w .start-is, w .end-is) (on h (kept _ _ _ _ _ _ (h .so) (c .loop-i-test .taken) (c .loop-i .state) e))
+      | in-Start-eq44 w ↦
+          let e : ends ≡ does = search needs in
+          let f = between (c .loop-i .start) (c .loop-i .end) (c .args .line .now) in
+          simp (w .count-is, w .out-is, w .state-is, w .start-is, w .end-is)
+          (one-more f h (ended _ _ _ _ _ _ (h .so) (c .loop-i-test .taken) e) (w .place .ensures))
+      | in-Start-eq32 w ↦
+          let e : keeps Plain ≡ does = search needs in
+          simp (w .count-is, w .out-is, w .state-is, w .start-is, w .end-is) (on h (kept _ _ _ _ _ _ (h .so) (c .loop-i-test .taken) Plain e))
     ]
 
 pub returns-in-Quoted : need.returns-in-Quoted

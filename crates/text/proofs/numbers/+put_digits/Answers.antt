@@ -9,8 +9,8 @@ use Rattle.text.proofs.numbers.+put_digits.Needs.{then-tenth-gt0, else-tenth-g
 front : (t : ℕ) (c : Joined-tenth-gt0 t) → Front (c .args .n) (c .args .buf .now) (c .if-tenth-gt0 .buf) (c .if-tenth-gt0 .end)
 front t c =
     elim (c .if-tenth-gt0 .came) [
-      then-tenth-gt0 w ↦ simp (w .buf-is, w .end-is) (gone-on (c .args .n) (w .if-tenth-gt0 .taken) (w .put-digits-end .ensures))
-    | else-tenth-gt0 w ↦ simp (w .buf-is, w .end-is) (begun (c .args .n) (c .args .buf .now) (omega (arith, w .if-tenth-gt0 .left)))
+      | then-tenth-gt0 w ↦ simp (w .buf-is, w .end-is) (gone-on (c .args .n) (w .if-tenth-gt0 .taken) (w .put-digits-end .ensures))
+      | else-tenth-gt0 w ↦ simp (w .buf-is, w .end-is) (begun (c .args .n) (c .args .buf .now) (omega (arith, w .if-tenth-gt0 .left)))
     ]
 
 pub put-digits-end-requires : need.put-digits-end-requires

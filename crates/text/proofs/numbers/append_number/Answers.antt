@@ -19,8 +19,8 @@ returns c =
     let before = vec-items (c .args .out .now) in
     record {
       items =
-        subst (λ (ds : List ℕ). vec-items (c .extend-from-slice .last .self) ≡ cond (isOk (c .extend-from-slice .result)) (before ++ ds) before)
-        e (c .extend-from-slice .ensures .items);
+          subst (λ (ds : List ℕ). vec-items (c .extend-from-slice .last .self) ≡ cond (isOk (c .extend-from-slice .result)) (before ++ ds) before)
+          e (c .extend-from-slice .ensures .items);
       succeeds = λ l. c .extend-from-slice .ensures .succeeds (omega (arith, ap length e));
       capacity = c .extend-from-slice .ensures .capacity;
     }

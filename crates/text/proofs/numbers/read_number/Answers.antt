@@ -9,8 +9,8 @@ pub returns-then-not-is-ascii-digit : need.returns-then-not-is-ascii-digit
 returns-then-not-is-ascii-digit c =
     at-no-digit _ _ _ (c .loop-byte .inv) (c .loop-byte-test .taken) (sym (c .if-not-is-ascii-digit .ensures tt .value))
 
-pub returns-then-value-gt4294967295 : need.returns-then-value-gt4294967295
-returns-then-value-gt4294967295 c =
+pub returns-then-value-gt-LARGEST : need.returns-then-value-gt-LARGEST
+returns-then-value-gt-LARGEST c =
     past-limit _ _ _ (c .loop-byte .inv) (c .loop-byte-test .taken) _ (ap (λ d. c .loop-byte .value * 10 + d) (c .from .ensures)) (omega arith)
 
 pub loop-byte-again : need.loop-byte-again
