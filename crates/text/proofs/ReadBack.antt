@@ -34,17 +34,21 @@ grows v [] = omega arith
 grows v (b ∷ bs) = omega (arith, grows (v * 10 + (b - 48)) bs)
 
 pub padded : (bs : List ℕ) → unpadded bs ≡ false → None ≡ numberOf bs
+unfolding numberOf
 padded bs u = ap (λ t. cond t (Some (valueFrom 0 bs)) None) (sym (and-left (unpadded bs) _ u))
 
 no-digits : (bs : List ℕ) → allDigits bs ≡ false → None ≡ numberOf bs
+unfolding numberOf
 no-digits bs d = ap (λ t. cond t (Some (valueFrom 0 bs)) None) (sym (and-right (unpadded bs) _ (and-left (allDigits bs) _ d)))
 
 too-large : (bs : List ℕ) → 2 ^ 32 ≤ valueFrom 0 bs → None ≡ numberOf bs
+unfolding numberOf
 too-large bs l =
     let big : ltb (valueFrom 0 bs) 4294967296 ≡ false = le-ltb _ _ l in
     ap (λ t. cond t (Some (valueFrom 0 bs)) None) (sym (and-right (unpadded bs) _ (and-right (allDigits bs) _ big)))
 
 read : (bs : List ℕ) → unpadded bs ≡ true → allDigits bs ≡ true → valueFrom 0 bs < 2 ^ 32 → numberOf bs ≡ Some (valueFrom 0 bs)
+unfolding numberOf
 read bs u d l =
     let small : ltb (valueFrom 0 bs) 4294967296 ≡ true = lt-ltb _ _ l in
     simp (u, d, small)
@@ -116,6 +120,7 @@ some-parts true v n e = (refl, cc)
 some-parts false v n e = let z : _≡_ {A = ℕ} 0 1 = cc in absurd (omega arith)
 
 only-digits : (bs : List ℕ) (n : ℕ) → numberOf bs ≡ Some n → bs ≡ digits n
+unfolding numberOf
 only-digits bs n e =
     let p = some-parts _ _ n e in
     let q = and-parts (unpadded bs) _ (p .0) in

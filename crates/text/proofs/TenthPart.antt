@@ -28,10 +28,18 @@ tenth-part n =
     (λ z. ap (λ ds. cond (eqb (n / 10) 0) [] ds ++ (48 + n % 10) ∷ []) (same-bound n (suc (n / 10)) (n / 10) (omega arith) (omega arith)))
     (cases-eq (n / 10) 0)
 
-pub length-more : (n : ℕ) → 0 < n / 10 → length (digits n) ≡ length (digits (n / 10)) + 1
-length-more n l =
-    let t : eqb (n / 10) 0 ≡ false = ne-eqb _ 0 (omega arith) in
-    ap length (tenth-part n) ∙ simp t (length-append (digits (n / 10)) ((48 + n % 10) ∷ []))
+-- the digits of the tenth part, unless that is 0
+abbrev pub tenths : ℕ → List ℕ
+tenths n = cond (eqb (n / 10) 0) [] (digits (n / 10))
+
+pub tenths-none : (n : ℕ) → n / 10 ≡ 0 → tenths n ≡ []
+tenths-none n e = let t : eqb (n / 10) 0 ≡ true = eq-eqb _ 0 e in simp t
+
+pub tenths-some : (n : ℕ) → 0 < n / 10 → tenths n ≡ digits (n / 10)
+tenths-some n l = let t : eqb (n / 10) 0 ≡ false = ne-eqb _ 0 (omega arith) in simp t
+
+pub length-more : (n : ℕ) → length (digits n) ≡ length (tenths n) + 1
+length-more n = ap length (tenth-part n) ∙ length-append (tenths n) ((48 + n % 10) ∷ [])
 
 spells : Spells digitsBy
 spells = record {

@@ -29,7 +29,7 @@ valueFrom v [] = v
 valueFrom v (b ∷ bs) = valueFrom (v * 10 + (b - 48)) bs
 
 -- the number below 2^32 that bytes write: digits only, and without leading zeros
-abbrev pub numberOf : List ℕ → Option ℕ
+unfoldable pub numberOf : List ℕ → Option ℕ
 numberOf bs =
     cond (unpadded bs && (allDigits bs && ltb (valueFrom 0 bs) 4294967296)) (Some (valueFrom 0 bs)) None
 

@@ -2,7 +2,7 @@ use mathlib.Core.Path.{_≡_, ap, sym, _∙_}
 use Prim.Native.Nat.{_+_, _-_, _*_}
 use native.Mathlib.Omega.{arith}
 use lib.ListN.{getD}
-use Rattle.text.proofs.ReadBack.{at-no-digit, past-limit, next, at-end}
+use Rattle.text.proofs.ReadBack.{at-end, at-no-digit, next, padded, past-limit}
 use Rattle.text.proofs.numbers.read_number.Needs as need
 
 pub returns-then-not-is-ascii-digit : need.returns-then-not-is-ascii-digit
@@ -20,3 +20,6 @@ loop-byte-again c =
 
 pub returns : need.returns
 returns c = at-end _ _ _ (c .loop-byte .inv) (c .loop-byte-test .left) (sym (c .if-not-is-unpadded .ensures tt))
+
+pub returns-then-not-is-unpadded : need.returns-then-not-is-unpadded
+returns-then-not-is-unpadded c = padded _ (sym (c .if-not-is-unpadded .ensures tt))
