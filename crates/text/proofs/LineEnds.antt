@@ -41,7 +41,9 @@ without-cr (a ∷ []) = refl
 without-cr (a ∷ b ∷ bs) = ap (λ x. a ∷ x) (without-cr (b ∷ bs))
 
 -- the same in the words of `strip_suffix`
-pub strips : (front : RefT (List ℕ)) (r : Option (RefT (List ℕ))) → Cases r ((f : List ℕ) → now front ≡ f ++ 13 ∷ [] → ⊥) (λ x. now front ≡ now x ++ 13 ∷ []) → now (valueOr r front) ≡ withoutCr (now front)
+pub strips : (front : RefT (List ℕ)) (r : Option (RefT (List ℕ)))
+    → Cases r ((f : List ℕ) → now front ≡ f ++ 13 ∷ [] → ⊥) (λ x. now front ≡ now x ++ 13 ∷ [])
+    → now (valueOr r front) ≡ withoutCr (now front)
 strips front None h = ⊎-elim (λ e. e) (λ e. absurd (h _ e)) (stripped (now front))
 strips front (Some x) h = sym (ap withoutCr h ∙ without-cr (now x))
 
@@ -53,7 +55,8 @@ more-lines b c bs n m =
     let ls = linesOf (c ∷ bs) in
     ap (λ v. cond v ([] ∷ ls) (cond (eqb b 13 && eqb c 10) ls (onto b ls))) f ∙ ap (λ v. cond v ls (onto b ls)) g
 
-lines-at-lf : (front rest : List ℕ) → Clear front (length front) → linesOf (front ++ 10 ∷ rest) ≡ withoutCr front ∷ linesOf rest
+lines-at-lf : (front rest : List ℕ) → Clear front (length front)
+    → linesOf (front ++ 10 ∷ rest) ≡ withoutCr front ∷ linesOf rest
 lines-at-lf [] rest clear = refl
 lines-at-lf (b ∷ []) rest clear =
     let f : eqb b 10 ≡ false = ne-eqb b 10 (clear 0 (omega arith)) in
@@ -75,26 +78,34 @@ lines-last (b ∷ c ∷ bs) some clear =
     ∙ ap (onto b) (lines-last (c ∷ bs) (omega arith) (λ k l. clear (suc k) (omega arith)))
 
 -- a text up to its first LF, and what follows
-at-lf : {text line : List ℕ} (front : List ℕ) {rest : List ℕ} → text ≡ front ++ 10 ∷ rest → Clear front (length front) → line ≡ withoutCr front → FirstLine text line rest
+at-lf : {text line : List ℕ} (front : List ℕ) {rest : List ℕ}
+    → text ≡ front ++ 10 ∷ rest → Clear front (length front) → line ≡ withoutCr front → FirstLine text line rest
 at-lf {text} {line} front {rest} whole clear w = record {
   lines = ap linesOf whole ∙ lines-at-lf front rest clear ∙ ap (λ x. x ∷ linesOf rest) (sym w);
   split = ⊎-elim (λ e. inl (whole ∙ ap (λ x. x ++ 10 ∷ rest) (e ∙ sym w)))
-      (λ e. inr (inl (whole ∙ ap (λ x. x ++ 10 ∷ rest) (e ∙ ap (λ x. x ++ 13 ∷ []) (sym w)) ∙ append-assoc line (13 ∷ []) (10 ∷ rest))))
+      (λ e.
+      let crlf : text ≡ (line ++ 13 ∷ []) ++ 10 ∷ rest = whole ∙ ap (λ x. x ++ 10 ∷ rest) (e ∙ ap (λ x. x ++ 13 ∷ []) (sym w)) in
+      inr (inl (crlf ∙ append-assoc line (13 ∷ []) (10 ∷ rest))))
       (stripped front);
   shorter = omega (arith, ap length whole, length-append front (10 ∷ rest));
 }
 
 -- the same where the LF stands at i
-pub split-at-lf : (text : List ℕ) (i : ℕ) (line : List ℕ) → i < length text → Clear text i → getD text i 0 ≡ 10 → line ≡ withoutCr (take (i - 0) text) → FirstLine text line (take (length text - (i + 1)) (drop (i + 1) text))
+pub split-at-lf : (text : List ℕ) (i : ℕ) (line : List ℕ)
+    → i < length text → Clear text i → getD text i 0 ≡ 10 → line ≡ withoutCr (take (i - 0) text)
+    → FirstLine text line (take (length text - (i + 1)) (drop (i + 1) text))
 split-at-lf text i line lt clear e w =
     let front : take (i - 0) text ≡ take i text = ap (λ k. take k text) (omega arith) in
-    let whole : text ≡ take i text ++ 10 ∷ drop (i + 1) text = sym (take-append-drop i text) ∙ ap (λ x. take i text ++ x) (drop-more text i 0 lt ∙ ap (λ b. b ∷ drop (i + 1) text) e) in
+    let rest : drop i text ≡ 10 ∷ drop (i + 1) text = drop-more text i 0 lt ∙ ap (λ b. b ∷ drop (i + 1) text) e in
+    let whole : text ≡ take i text ++ 10 ∷ drop (i + 1) text = sym (take-append-drop i text) ∙ ap (λ x. take i text ++ x) rest in
     let within : length (take i text) ≡ i = length-take-le i text (omega arith) in
-    let none : Clear (take i text) (length (take i text)) = λ k l z. let l′ : k < i = omega arith in clear k l′ (sym (getD-take i text k 0 l′) ∙ z) in
+    let none : Clear (take i text) (length (take i text)) = λ k l z.
+    let l′ : k < i = omega arith in clear k l′ (sym (getD-take i text k 0 l′) ∙ z) in
     rw take-rest (at-lf (take i text) whole none (w ∙ ap withoutCr front))
 
 -- a text without LF is one line
-pub split-last : (text : List ℕ) → 0 < length text → Clear text (length text) → FirstLine text text (take (length text - length text) (drop (length text) text))
+pub split-last : (text : List ℕ) → 0 < length text → Clear text (length text)
+    → FirstLine text text (take (length text - length text) (drop (length text) text))
 split-last text some clear =
     let rest = take-rest text (length text) ∙ drop-all (length text) text (omega arith) in
     record {

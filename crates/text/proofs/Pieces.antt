@@ -39,14 +39,17 @@ module _ {before mid : List ℕ} {at a : ℕ} (xs : List ℕ) (p : Placed before
 
   front-long : length front ≡ a
   unfolding front
-  front-long = length-append (take at before) xs ∙ ap (λ k. k + length xs) (length-take-le at before (omega (arith, p .ends, p .fits))) ∙ sym (p .ends)
+  front-long =
+      let begin : length (take at before) ≡ at = length-take-le at before (omega (arith, p .ends, p .fits)) in
+      length-append (take at before) xs ∙ ap (λ k. k + length xs) begin ∙ sym (p .ends)
 
   whole : mid ≡ front ++ drop a before
   unfolding front
   whole = p .holds ∙ sym (append-assoc (take at before) xs (drop a before))
 
   pub length-kept : length mid ≡ length before
-  length-kept = ap length whole ∙ length-append front (drop a before) ∙ omega (arith, front-long, length-drop a before, p .fits)
+  length-kept =
+      ap length whole ∙ length-append front (drop a before) ∙ omega (arith, front-long, length-drop a before, p .fits)
 
   -- two pieces, the second from where the first ends
   pub joined : {after : List ℕ} {b : ℕ} (ys : List ℕ) → Placed mid a ys b after → Placed before at (xs ++ ys) b after
@@ -54,7 +57,9 @@ module _ {before mid : List ℕ} {at a : ℕ} (xs : List ℕ) (p : Placed before
   joined {after} {b} ys q =
       let begin : take a mid ≡ front = ap (take a) whole ∙ take-at front (drop a before) a front-long in
       let rest : drop a mid ≡ drop a before = ap (drop a) whole ∙ drop-at front (drop a before) a front-long in
-      let past : drop b mid ≡ drop b before = ap (λ k. drop k mid) (q .ends) ∙ sym (drop-drop (length ys) a mid) ∙ ap (drop (length ys)) rest ∙ drop-drop (length ys) a before ∙ ap (λ k. drop k before) (sym (q .ends)) in
+      let past : drop b mid ≡ drop b before =
+      ap (λ k. drop k mid) (q .ends) ∙ sym (drop-drop (length ys) a mid) ∙ ap (drop (length ys)) rest
+      ∙ drop-drop (length ys) a before ∙ ap (λ k. drop k before) (sym (q .ends)) in
       record {
         ends = omega (arith, p .ends, q .ends, length-append xs ys);
         fits = omega (arith, q .fits, length-kept);

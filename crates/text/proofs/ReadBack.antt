@@ -15,11 +15,13 @@ use Rattle.std.specs.Written.{decimal}
 use Rattle.std.specs.shelf.Text.{allDigits, sameBytes}
 use Rattle.std.specs.declared.option.Option.{Option}
 use Rattle.std.specs.declared.option.Option.the-variants.{Some, None}
-use Rattle.std.proofs.shelf.Decimals.{first-decimal, decimal-digit, decimal-some, decimal-value, digits-decimal as decimal-digits, value-decimal}
+use Rattle.std.proofs.shelf.Decimals.{first-decimal, decimal-digit, decimal-some, decimal-value, value-decimal}
+use Rattle.std.proofs.shelf.Decimals.{digits-decimal as decimal-digits}
 use Rattle.std.proofs.shelf.Equals.{sameBytes-decides}
 use Rattle.std.proofs.shelf.Lists.{at-drop-more, at-drop-all}
 use Rattle.std.proofs.shelf.Numerals.{Numerals, numerals-by-fold, tells-allDigits}
-use Rattle.std.proofs.shelf.Tests.{and-left, and-right, and-parts, cases-lt, eq-eqb, eqb-true, le-ltb, lt-ltb, ltb-true, ne-eqb, not-true}
+use Rattle.std.proofs.shelf.Tests.{and-left, and-right, and-parts, cases-lt, eq-eqb, ne-eqb, not-true}
+use Rattle.std.proofs.shelf.Tests.{le-ltb, lt-ltb, ltb-true}
 use Rattle.text.specs.Decimal.{ReadsBack, digits, numberOf, unpadded, valueFrom}
 use Rattle.text.proofs.TenthPart.{digits-decimal, tenth-part}
 
@@ -39,7 +41,8 @@ padded bs u = ap (λ t. cond t (Some (valueFrom 0 bs)) None) (sym (and-left (unp
 
 no-digits : (bs : List ℕ) → allDigits bs ≡ false → None ≡ numberOf bs
 unfolding numberOf
-no-digits bs d = ap (λ t. cond t (Some (valueFrom 0 bs)) None) (sym (and-right (unpadded bs) _ (and-left (allDigits bs) _ d)))
+no-digits bs d =
+    ap (λ t. cond t (Some (valueFrom 0 bs)) None) (sym (and-right (unpadded bs) _ (and-left (allDigits bs) _ d)))
 
 too-large : (bs : List ℕ) → 2 ^ 32 ≤ valueFrom 0 bs → None ≡ numberOf bs
 unfolding numberOf
@@ -47,7 +50,8 @@ too-large bs l =
     let big : ltb (valueFrom 0 bs) 4294967296 ≡ false = le-ltb _ _ l in
     ap (λ t. cond t (Some (valueFrom 0 bs)) None) (sym (and-right (unpadded bs) _ (and-right (allDigits bs) _ big)))
 
-read : (bs : List ℕ) → unpadded bs ≡ true → allDigits bs ≡ true → valueFrom 0 bs < 2 ^ 32 → numberOf bs ≡ Some (valueFrom 0 bs)
+read : (bs : List ℕ) → unpadded bs ≡ true → allDigits bs ≡ true → valueFrom 0 bs < 2 ^ 32
+    → numberOf bs ≡ Some (valueFrom 0 bs)
 unfolding numberOf
 read bs u d l =
     let small : ltb (valueFrom 0 bs) 4294967296 ≡ true = lt-ltb _ _ l in
@@ -64,7 +68,8 @@ module _ (bs : List ℕ) (v i : ℕ) (h : Sofar bs v i) where
   pub past-limit : i < length bs → (w : ℕ) → w ≡ v * 10 + (getD bs i 0 - 48) → 2 ^ 32 ≤ w → None ≡ numberOf bs
   past-limit lt w e l = too-large bs (omega (arith, one-more lt w e, grows w (drop (i + 1) bs)))
 
-  pub next : i < length bs → asciiDigit (getD bs i 0) ≡ true → (w : ℕ) → w ≡ v * 10 + (getD bs i 0 - 48) → w < 2 ^ 32 → Sofar bs w (i + 1)
+  pub next : i < length bs → asciiDigit (getD bs i 0) ≡ true
+      → (w : ℕ) → w ≡ v * 10 + (getD bs i 0 - 48) → w < 2 ^ 32 → Sofar bs w (i + 1)
   next lt d w e l = record {
     worth = one-more lt w e;
     onward = sym (ap (λ t. t && allDigits (drop (i + 1) bs)) d) ∙ sym (at-drop-more allDigits bs i 0 lt) ∙ h .onward;
@@ -136,7 +141,9 @@ same-by : (xs ys : List ℕ) (r : Bool) → Decides r (xs ≡ ys) → r ≡ same
 same-by xs ys r h = search (needs, sameBytes-decides)
 
 -- bytes are the digits of n exactly where n is read from them
-pub spelled : (bs : List ℕ) (n : ℕ) → n < 2 ^ 32 → (o : Option ℕ) (r : Bool) → o ≡ numberOf bs → Cases o (r ≡ false) (λ m. Decides r (m ≡ n)) → r ≡ sameBytes bs (digits n)
+pub spelled : (bs : List ℕ) (n : ℕ) → n < 2 ^ 32
+    → (o : Option ℕ) (r : Bool) → o ≡ numberOf bs → Cases o (r ≡ false) (λ m. Decides r (m ≡ n))
+    → r ≡ sameBytes bs (digits n)
 spelled bs n l None r e h =
     same-by bs (digits n) r (
       (λ t. let z : _≡_ {A = ℕ} 0 1 = cc in absurd (omega arith)),

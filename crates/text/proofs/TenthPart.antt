@@ -25,7 +25,9 @@ pub tenth-part : (n : ℕ) → digits n ≡ cond (eqb (n / 10) 0) [] (digits (n 
 unfolding digits
 tenth-part n =
     ⊎-elim (λ e. let t : eqb (n / 10) 0 ≡ true = eq-eqb _ 0 e in simp t)
-    (λ z. ap (λ ds. cond (eqb (n / 10) 0) [] ds ++ (48 + n % 10) ∷ []) (same-bound n (suc (n / 10)) (n / 10) (omega arith) (omega arith)))
+    (λ z.
+    let same = same-bound n (suc (n / 10)) (n / 10) (omega arith) (omega arith) in
+    ap (λ ds. cond (eqb (n / 10) 0) [] ds ++ (48 + n % 10) ∷ []) same)
     (cases-eq (n / 10) 0)
 
 -- the digits of the tenth part, unless that is 0

@@ -25,7 +25,8 @@ NoField bytes = (field text rest : List ℕ) → Written field text → (bytes �
 -- a line is its fields with a comma between two; a broken one has a malformed field behind the last comma that is reached
 pub data Parted : List ℕ → Cut → Type 0 where
   last : {field text : List ℕ} → Written field text → Parted text (whole (field ∷ []))
-  more : {field text rest : List ℕ} {k : Cut} → Written field text → Parted rest k → Parted (text ++ 44 ∷ rest) (onto field k)
+  more : {field text rest : List ℕ} {k : Cut} → Written field text → Parted rest k
+      → Parted (text ++ 44 ∷ rest) (onto field k)
   fault : {bytes : List ℕ} → NoField bytes → Parted bytes (broken [])
 
 -- a line is parted as it is cut, and in no other way

@@ -17,9 +17,10 @@ pub returns : need.returns
 returns c =
     let e = front-part (c .put-digits-count .ensures) in
     let before = vec-items (c .args .out .now) in
+    let after = c .extend-from-slice .last .self in
     record {
       items =
-          subst (λ (ds : List ℕ). vec-items (c .extend-from-slice .last .self) ≡ cond (isOk (c .extend-from-slice .result)) (before ++ ds) before)
+          subst (λ (ds : List ℕ). vec-items after ≡ cond (isOk (c .extend-from-slice .result)) (before ++ ds) before)
           e (c .extend-from-slice .ensures .items);
       succeeds = λ l. c .extend-from-slice .ensures .succeeds (omega (arith, ap length e));
       capacity = c .extend-from-slice .ensures .capacity;

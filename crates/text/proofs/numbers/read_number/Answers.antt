@@ -11,7 +11,8 @@ returns-then-not-is-ascii-digit c =
 
 pub returns-then-value-gt-LARGEST : need.returns-then-value-gt-LARGEST
 returns-then-value-gt-LARGEST c =
-    past-limit _ _ _ (c .loop-byte .inv) (c .loop-byte-test .taken) _ (ap (λ d. c .loop-byte .value * 10 + d) (c .from .ensures)) (omega arith)
+    past-limit _ _ _ (c .loop-byte .inv) (c .loop-byte-test .taken) _
+    (ap (λ d. c .loop-byte .value * 10 + d) (c .from .ensures)) (omega arith)
 
 pub loop-byte-again : need.loop-byte-again
 loop-byte-again c =
