@@ -11,7 +11,7 @@ use Rattle.text.specs.declared.fields.Malformed.{Malformed}
 use Rattle.text.specs.declared.fields.State.{State}
 use Rattle.text.specs.declared.fields.State.the-variants.{Start, Plain, Quoted, AfterQuote}
 
--- a byte that a line may hold
+-- a byte that a line may hold, from 32 to 126
 abbrev pub printable : ℕ → Bool
 printable b = leb 32 b && leb b 126
 
@@ -23,6 +23,7 @@ pub data Step : Type 0 where
   ends : Step
   breaks : Step
 
+-- where the reader stands and the byte to come decide it
 abbrev pub step : State → ℕ → Step
 step Start b = cond (eqb b 34) opens (cond (eqb b 44) ends (cond (printable b) (keeps Plain) breaks))
 step Plain b = cond (eqb b 34) breaks (cond (eqb b 44) ends (cond (printable b) (keeps Plain) breaks))
@@ -34,6 +35,7 @@ pub data Cut : Type 0 where
   whole : List (List ℕ) → Cut
   broken : List (List ℕ) → Cut
 
+-- the fields before the end, or before the malformed one
 abbrev pub found : Cut → List (List ℕ)
 found (whole fields) = fields
 found (broken fields) = fields
@@ -50,7 +52,7 @@ finish Plain field = whole (field ∷ [])
 finish Quoted field = broken []
 finish AfterQuote field = whole (field ∷ [])
 
--- from a state, the field so far and the bytes to come
+-- the fields from a state, the field so far and the bytes to come
 abbrev pub cut : State → List ℕ → List ℕ → Cut
 cut s field [] = finish s field
 cut s field (b ∷ bs) =
@@ -62,6 +64,7 @@ cut s field (b ∷ bs) =
       | breaks ↦ broken []
     ]
 
+-- a line is cut from the start of its first field on
 abbrev pub cutLine : List ℕ → Cut
 cutLine line = cut Start [] line
 
