@@ -22,11 +22,6 @@ use Rattle.model.specs.Shape.{Shape, source}
 use Rattle.kernel.specs.declared.routes.Routes.{Routes}
 use Rattle.simulation.specs.Prepare.{Fits, All-fit, Opens, Sticks}
 
--- An answer that says whether something holds.
-abbrev pub Decided : Bool → Type 0 → Type 0
-Decided true holds = holds
-Decided false holds = ¬ holds
-
 -- Whether the link k is there and comes from outside.
 abbrev pub outside : Shape → ℕ → Bool
 outside plan k = ltb k (length (plan .links)) && is-none (source plan k)
