@@ -6,3 +6,4 @@ pub mod Calls
 pub mod Prepare
 pub mod Law
 pub mod Programs
+pub mod Relay
