@@ -8,7 +8,7 @@ use Rattle.std.specs.declared.option.Option.{Option}
 use Rattle.std.specs.declared.option.Option.the-variants.{None, Some}
 use Rattle.model.specs.declared.event.Event.{Event}
 use Rattle.simulation.specs.View.{due}
-use Rattle.simulation.proofs.Tests.{if-cases, some-same}
+use Rattle.simulation.proofs.Tests.{if-cases}
 use Rattle.simulation.proofs.System.{System, Entry, entry, Before}
 use Rattle.simulation.proofs.Kernel.{Kernel, waiting, link-clock, clock-below, clock, Safe}
 
@@ -116,13 +116,3 @@ module _ {C S : Type 0} (sys : System C S) (s : Kernel C) (p : ℕ) where
       go o (Some a) e =
           let d : a .time ≡ clock sys s p = sym (due-some (s .floor (o .i)) e) ∙ o .is in
           absurd (idle (entry (o .i) a) (record { is-link = o .below; is-process = q; mine = o .mine; waits = e; soon = rw d (o .soon); sure = rw d (o .first) }))
-
-  -- There is one safe event at most.
-  pub safe-same : (d e : Entry C) → Safe sys s p d → Safe sys s p e → d ≡ e
-  safe-same d e a b = by-cases (ℕ-discrete (d .link) (e .link))
-      (λ l. let m : d .event ≡ e .event = some-same (a .waits) (rw l (b .waits)) in λ i. record { link = l i; event = m i })
-      (λ n. let x = a .sure (e .link) (b .is-link) (b .mine) (λ q. n (sym q)) in
-      let u = due-some (s .floor (e .link)) (b .waits) in
-      let y = b .sure (d .link) (a .is-link) (a .mine) n in
-      let v = due-some (s .floor (d .link)) (a .waits) in
-      absurd (omega arith))

@@ -33,7 +33,7 @@ use Rattle.simulation.proofs.MergeLaw.{Merged, Settled, ends-merged, ends-sett
 use Rattle.simulation.proofs.Course.{Course, Ends}
 use Rattle.simulation.proofs.Kernel as K
 use Rattle.simulation.proofs.Kernel.{Kernel, Counted, boot, events, Gets, boots, ticks}
-use Rattle.simulation.proofs.Clocks.{safe-same}
+use Rattle.simulation.proofs.OneSafe.{one-safe}
 use Rattle.simulation.proofs.FollowsMerged as F
 use Rattle.simulation.proofs.FollowsMerged.{all-taken, breaches-there, gets-follows}
 use Rattle.simulation.proofs.Rounds.{levels, finishes}
@@ -240,11 +240,10 @@ module _ {C P : Type 0} (g : Program C P) (net : Net C P) (same : Constant g) wh
       planned-breaches : (p i : ℕ) (e : Event C) (b : Breach) (w : View C P) → Safe (net .plan) (v .links) p i e → Step g (planned g net v) p (Err (Breached b)) w
           → (simulated g net .stopped p ≡ Some (record { choice = record { process = p; link = i; event = e }; breach = b })) × Whole g net v p
       planned-breaches p i e b w safe (Step.breached {s = x} {i = j} {e = d} y sf f l q) =
-          let here = is-safe p b x j d y sf q in
-          let there = kernel-safe g net same limits ok v (r .c) (r .gets) (r .shows) p x y i e safe in
-          let one : entry j d ≡ entry i e = safe-same N s p (entry j d) (entry i e) here there in
+          let one = one-safe C (net .plan) (v .links) p j i d e sf safe in
+          let ev : entry j d ≡ entry i e = ap₂ entry (one .0) (one .1) in
           (
-            breach-there p b x j d y sf q ∙ ap (λ (n : Entry C). Some (record { choice = record { process = p; link = n .link; event = n .event }; breach = b })) one,
+            breach-there p b x j d y sf q ∙ ap (λ (n : Entry C). Some (record { choice = record { process = p; link = n .link; event = n .event }; breach = b })) ev,
             whole p (stuck-there p b x j d y sf q .0),
           )
 

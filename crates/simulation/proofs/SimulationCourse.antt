@@ -15,7 +15,7 @@ use Rattle.model.specs.declared.refusal.Breach.{Breach}
 use Rattle.model.specs.Lists.{oldest, update}
 use Rattle.model.specs.Shape.{target, delay}
 use Rattle.simulation.specs.Net.{Program, Net, Outgoing, handle, breach-of}
-use Rattle.simulation.specs.Simulation.{Sim, Stop, Choice, last-arrival, append, arrive, opening-on, start, lowest, stop, take, settle, act, turn, turns, enough, simulated}
+use Rattle.simulation.specs.Simulation.{Sim, Stop, Choice, last-arrival, pending-with, last-with, opening-on, start, lowest, stop-process, take-event, settle, act, turn, turns, enough, simulated}
 use Rattle.simulation.specs.Prepare.{Limits}
 use Rattle.simulation.specs.Law.{Over}
 use Rattle.simulation.proofs.Tests.{none-is-some, none-some, some-same, if-same, if-other, update-same, update-is, update-other}
@@ -68,7 +68,7 @@ module _ {C P : Type 0} (g : Program C P) (net : Net C P) where
     pub enough : Enough N (t .h)
 
   -- What goes out waits last on its link.
-  append-last : (o : Option (Outgoing C)) (f : ℕ → List (Event C)) (j : ℕ) → append (net .plan) o f j ≡ put-last N j o (f j)
+  append-last : (o : Option (Outgoing C)) (f : ℕ → List (Event C)) (j : ℕ) → pending-with (net .plan) o f j ≡ put-last N j o (f j)
   unfolding put-last
   append-last None f j = refl
   append-last (Some x) f j = by-cases (ℕ-discrete (x .link) j)
@@ -83,7 +83,7 @@ module _ {C P : Type 0} (g : Program C P) (net : Net C P) where
 
   -- The arrival of what goes out is the last on its link.
   arrive-newest : (o : Option (Outgoing C)) (f : ℕ → ℕ) (j : ℕ) (ms : List (Event C)) → f j ≡ newest (delay (net .plan) j) ms
-      → arrive (net .plan) o f j ≡ newest (delay (net .plan) j) (post N j o ms)
+      → last-with (net .plan) o f j ≡ newest (delay (net .plan) j) (post N j o ms)
   unfolding post newest
   arrive-newest None f j ms q = q
   arrive-newest (Some x) f j ms q = by-cases (ℕ-discrete (x .link) j)
@@ -199,7 +199,7 @@ module _ {C P : Type 0} (g : Program C P) (net : Net C P) where
           go hs (Some o) i x z = none-is-some (sym (none-stop q (t .h q) (Some o) i x z))
 
       -- The event is taken.
-      take-mirrors : Mirrors (take g net s c (handle g (net .plan) p (st .x) k a .0) out) (record { h = h′; stopped = t .stopped })
+      take-mirrors : Mirrors (take-event g net s c (handle g (net .plan) p (st .x) k a .0) out) (record { h = h′; stopped = t .stopped })
       take-mirrors = record {
         states = λ q. by-cases (ℕ-discrete q p)
             (λ r. rw r (update-same (s .state) p _ ∙ sym (ap (state N p) (update-same (t .h) p (e ∷ t .h p)) ∙ stated)))
@@ -221,7 +221,7 @@ module _ {C P : Type 0} (g : Program C P) (net : Net C P) where
       }
 
       -- The process is stopped.
-      stop-mirrors : (b : Breach) → verdict ≡ Some b → Mirrors (stop net s c b) (record { h = t .h; stopped = update (t .stopped) p (Some e) })
+      stop-mirrors : (b : Breach) → verdict ≡ Some b → Mirrors (stop-process s c b) (record { h = t .h; stopped = update (t .stopped) p (Some e) })
       stop-mirrors b q = record {
         states = m .states;
         queues = m .queues;

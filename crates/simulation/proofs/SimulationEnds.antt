@@ -18,7 +18,7 @@ use Rattle.model.specs.declared.refusal.Breach.{Breach}
 use Rattle.model.specs.Lists.{at, oldest, update, is-none, total}
 use Rattle.model.specs.Shape.{source, delay}
 use Rattle.simulation.specs.Net.{Program, Net, Outgoing, handle, breach-of}
-use Rattle.simulation.specs.Simulation.{Sim, Stop, Choice, arriving, append, opening-on, start, lowest, stop, take, settle, act, turn, turns, enough, lookahead-of}
+use Rattle.simulation.specs.Simulation.{Sim, Stop, Choice, arriving, pending-with, opening-on, start, lowest, stop-process, take-event, settle, act, turn, turns, enough, lookahead-of}
 use Rattle.simulation.specs.Prepare.{Limits}
 use Rattle.simulation.specs.Law.{Over}
 use Rattle.simulation.proofs.Tests.{none-is-some, update-same, update-is, update-other, update-cases}
@@ -106,9 +106,9 @@ module _ {C P : Type 0} (g : Program C P) (net : Net C P) where
     is-process = target-below (net .plan) (limits .within) k p (pending .leads)
 
     -- A turn that stops the process.
-    stop-less : (b : Breach) → weight (stop net s c b) + 1 ≤ weight s
+    stop-less : (b : Breach) → weight (stop-process s c b) + 1 ≤ weight s
     stop-less b =
-        let d = total-drop (net .plan .processes) (λ q. one-if (stop net s c b .stopped q)) (λ q. one-if (s .stopped q)) 1 p
+        let d = total-drop (net .plan .processes) (λ q. one-if (stop-process s c b .stopped q)) (λ q. one-if (s .stopped q)) 1 p
         (λ q l. ⊎-elim (λ u. rw (u .1) (omega arith)) (λ u. rw (u .1) (omega arith)) (update-cases (s .stopped) p q (Some (record { choice = c; breach = b }))))
         is-process
         (rw (update-same (s .stopped) p (Some (record { choice = c; breach = b })), pending .goes) (omega arith)) in
@@ -135,11 +135,11 @@ module _ {C P : Type 0} (g : Program C P) (net : Net C P) where
       verdict = breach-of p (c .event .time + g .lookahead x) (delay (net .plan)) (s .last) out
 
       abbrev after : Sim C P
-      after = take g net s c (handle g (net .plan) p x k (c .event) .0) out
+      after = take-event g net s c (handle g (net .plan) p x k (c .event) .0) out
 
       -- What is sent has less time to the horizon than what was taken.
       sent-less : verdict ≡ None → (o : Option (Outgoing C)) → out ≡ o
-          → total (length (net .plan .links)) (time-left (append (net .plan) o rest)) ≤ total (length (net .plan .links)) (time-left rest) + (net .plan .horizon - (c .event .time + 1))
+          → total (length (net .plan .links)) (time-left (pending-with (net .plan) o rest)) ≤ total (length (net .plan .links)) (time-left rest) + (net .plan .horizon - (c .event .time + 1))
       sent-less q None w = omega arith
       sent-less q (Some y) w =
           let own = outgoing-own g net p _ y w in
@@ -147,7 +147,7 @@ module _ {C P : Type 0} (g : Program C P) (net : Net C P) where
           let ahead = keeps .ahead in
           let r = far (y .link) p (own .1) is-process in
           let l = look in
-          total-rise (length (net .plan .links)) (time-left (append (net .plan) (Some y) rest)) (time-left rest) (net .plan .horizon - (c .event .time + 1)) (y .link)
+          total-rise (length (net .plan .links)) (time-left (pending-with (net .plan) (Some y) rest)) (time-left rest) (net .plan .horizon - (c .event .time + 1)) (y .link)
           (λ j i n. rw (update-other rest (y .link) j (rest (y .link) ++ arriving (net .plan) (y .link) (y .time) (y .cargo) ∷ []) n) (omega arith))
           (rw (update-same rest (y .link) (rest (y .link) ++ arriving (net .plan) (y .link) (y .time) (y .cargo) ∷ []))
           (let e = load-append (net .plan .horizon) (rest (y .link)) (arriving (net .plan) (y .link) (y .time) (y .cargo)) in omega arith))

@@ -41,12 +41,12 @@ module _ {C : Type 0} (plan : Shape) where
         → Opens (o ∷ os) m n
 
   -- One of them is not put: the first whose link does not come from outside, or refuses it.
-  pub data Sticks : List (Opening C) → Pile C → Unprepared → Pile C → Type 0 where
-    inside : {o : Opening C} {os : List (Opening C)} {m : Pile C} → ¬ (Outside plan (o .link)) → Sticks (o ∷ os) m (NotOutside (o .link)) m
+  pub data Opening-fails : List (Opening C) → Pile C → Unprepared → Pile C → Type 0 where
+    inside : {o : Opening C} {os : List (Opening C)} {m : Pile C} → ¬ (Outside plan (o .link)) → Opening-fails (o ∷ os) m (NotOutside (o .link)) m
     refused : {o : Opening C} {os : List (Opening C)} {m : Pile C} {f : LinkFault} → Outside plan (o .link) → PutFails m (o .link) (o .time) f
-        → Sticks (o ∷ os) m (LinkRefused (o .link) f) m
+        → Opening-fails (o ∷ os) m (LinkRefused (o .link) f) m
     later : {o : Opening C} {os : List (Opening C)} {m l n : Pile C} {r : Unprepared} → Outside plan (o .link) → PutDone m (o .link) (o .time) (o .cargo) l
-        → Sticks os l r n → Sticks (o ∷ os) m r n
+        → Opening-fails os l r n → Opening-fails (o ∷ os) m r n
 
 module _ {C P : Type 0} (net : Net C P) where
   -- The plan is within its limits, and there are as many processes as planned.
@@ -80,7 +80,7 @@ module _ {C P : Type 0} (net : Net C P) where
   pub data Prepares (m : Pile C) (size : ℕ) : Result (View C P) Unprepared → Pile C → Type 0 where
     wrong-numbers : ¬ (As-planned m) → Prepares m size (Err WrongNumbers) m
     not-fresh : {k : ℕ} → As-planned m → k < m .count → ¬ (Fits (net .plan) m k) → ((j : ℕ) → j < k → Fits (net .plan) m j) → Prepares m size (Err (NotFresh k)) m
-    not-opened : {r : Unprepared} {n : Pile C} → As-planned m → All-fit (net .plan) m → Sticks (net .plan) (net .opening) m r n → Prepares m size (Err r) n
+    not-opened : {r : Unprepared} {n : Pile C} → As-planned m → All-fit (net .plan) m → Opening-fails (net .plan) (net .opening) m r n → Prepares m size (Err r) n
     ready : {v : View C P} (p : Prepared v) → p .fresh ≡ m → v .room ≡ min size 65536 → Prepares m size (Ok v) (v .links)
     no-memory : Prepares m size (Err NoMemory) m
 

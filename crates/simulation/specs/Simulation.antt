@@ -58,14 +58,14 @@ module _ {C : Type 0} where
   lower (Some a) (Some b) = cond (before b a) (Some b) (Some a)
 
   -- What goes out is appended to what is pending on its link.
-  abbrev pub append : Shape → Option (Outgoing C) → (ℕ → List (Event C)) → ℕ → List (Event C)
-  append plan None pending = pending
-  append plan (Some x) pending = update pending (x .link) (pending (x .link) ++ (arriving plan (x .link) (x .time) (x .cargo) ∷ []))
+  abbrev pub pending-with : Shape → Option (Outgoing C) → (ℕ → List (Event C)) → ℕ → List (Event C)
+  pending-with plan None pending = pending
+  pending-with plan (Some x) pending = update pending (x .link) (pending (x .link) ++ (arriving plan (x .link) (x .time) (x .cargo) ∷ []))
 
   -- Its arrival is the last one there.
-  abbrev pub arrive : Shape → Option (Outgoing C) → (ℕ → ℕ) → ℕ → ℕ
-  arrive plan None last = last
-  arrive plan (Some x) last = update last (x .link) (x .time + delay plan (x .link))
+  abbrev pub last-with : Shape → Option (Outgoing C) → (ℕ → ℕ) → ℕ → ℕ
+  last-with plan None last = last
+  last-with plan (Some x) last = update last (x .link) (x .time + delay plan (x .link))
 
 module _ {C P : Type 0} (net : Net C P) where
   -- The opening events of the link k, in their order, as they arrive.
@@ -98,9 +98,10 @@ module _ {C P : Type 0} (net : Net C P) where
   abbrev pub lowest : Sim C P → Option (Choice C)
   lowest s = lowest-below (length (net .plan .links)) s
 
+module _ {C P : Type 0} where
   -- A breach stops the process: the event stays pending, the state stays, and nothing is sent.
-  abbrev pub stop : Sim C P → Choice C → Breach → Sim C P
-  stop s c b = record {
+  abbrev pub stop-process : Sim C P → Choice C → Breach → Sim C P
+  stop-process s c b = record {
     state = s .state;
     pending = s .pending;
     last = s .last;
@@ -110,19 +111,19 @@ module _ {C P : Type 0} (net : Net C P) where
 
 module _ {C P : Type 0} (g : Program C P) (net : Net C P) where
   -- The event is taken: the state changes, what goes out is appended, and the history grows.
-  abbrev pub take : Sim C P → Choice C → P → Option (Outgoing C) → Sim C P
-  take s c next sent = record {
+  abbrev pub take-event : Sim C P → Choice C → P → Option (Outgoing C) → Sim C P
+  take-event s c next sent = record {
     state = update (s .state) (c .process) (Some next);
-    pending = append (net .plan) sent (update (s .pending) (c .link) (tail (s .pending (c .link))));
-    last = arrive (net .plan) sent (s .last);
+    pending = pending-with (net .plan) sent (update (s .pending) (c .link) (tail (s .pending (c .link))));
+    last = last-with (net .plan) sent (s .last);
     stopped = s .stopped;
     history = update (s .history) (c .process) (s .history (c .process) ++ (record-of g (c .process) (c .link) (c .event) ∷ []));
   }
 
   -- A breach stops the process; without one the event is taken.
   abbrev pub settle : Sim C P → Choice C → P × Option (Outgoing C) → Option Breach → Sim C P
-  settle s c (next, sent) None = take s c next sent
-  settle s c (next, sent) (Some b) = stop net s c b
+  settle s c (next, sent) None = take-event s c next sent
+  settle s c (next, sent) (Some b) = stop-process s c b
 
   -- The process of c, in its state, does with the event what its rule says.
   abbrev pub act : Sim C P → Choice C → Option P → Sim C P

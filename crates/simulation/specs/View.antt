@@ -54,6 +54,10 @@ module _ {C : Type 0} where
     pub soon : e .time < plan .horizon
     pub sure : (j : ℕ) → target plan j ≡ Some p → j ≢ i → (e .time < link-clock m j) ⊎ ((link-clock m j ≡ e .time) × (i < j))
 
+-- At most one event of a process is safe.
+abbrev pub One-safe : Type 0 → Type 0
+One-safe C = (plan : Shape) (m : Pile C) (p i j : ℕ) (d e : Event C) → Safe plan m p i d → Safe plan m p j e → (i ≡ j) × (d ≡ e)
+
 module _ {C P : Type 0} (v : View C P) where
   -- There are as many processes and links as planned, and no more records than the log has room for.
   abbrev pub as-prepared : Bool
