@@ -9,6 +9,7 @@ use layers::quota::Quota;
 use layers::quota::QuotaLinks;
 use model::answer::Passed;
 use model::event::Event;
+use model::event::EventClone;
 use model::links::Links;
 use model::record::Record;
 use ring::store::Ring;

@@ -27,10 +27,13 @@ pub fn plan(heap: Global) -> Result<Plan, AnyError> {
 
 pub fn processes(heap: Global) -> Result<Vec<RoadKind>, AnyError> {
     let settings = Settings { lookahead: 5, cycle: 60, green: 30, offset: 0, headway: 2, crossing: 5 };
-    match (Signal::new(settings), Exit::new(1)) {
-        (Some(signal), Some(exit)) => Ok(vec![in heap; RoadKind::Signal(signal), RoadKind::Exit(exit)]?),
-        _ => Err("a process is outside its limits".into()),
-    }
+    let Some(signal) = Signal::new(settings) else {
+        return Err("a signal is outside its limits".into());
+    };
+    let Some(exit) = Exit::new(1) else {
+        return Err("an exit is outside its limits".into());
+    };
+    Ok(vec![in heap; RoadKind::Signal(signal), RoadKind::Exit(exit)]?)
 }
 
 // Two vehicles that come together.
