@@ -19,7 +19,7 @@ use Rattle.model.specs.Linking.{PutDone}
 use Rattle.model.specs.Pile.{Pile}
 use Rattle.model.specs.Shape.{Shape, source}
 use Rattle.model.proofs.Places.{at-read, at-past}
-use Rattle.simulation.specs.Prepare.{Outside, Opens, Sticks}
+use Rattle.simulation.specs.Prepare.{Outside, Opens, Opening-fails}
 use Rattle.kernel.specs.Preparing.{outside}
 
 module _ (plan : Shape) (k : ℕ) where
@@ -69,17 +69,17 @@ module _ {C : Type 0} (plan : Shape) where
   opens-more os i o m l n is short opens from put =
       subst (λ x. Opens plan x m n) (ap (λ x. take i os ++ (x ∷ [])) is ∙ sym (take-more os i o short)) (opens-last (take i os) o m l n opens from put)
 
-  sticks-after : (os ps : List (Opening C)) (m l n : Pile C) (why : Unprepared) → Opens plan os m l → Sticks plan ps l why n → Sticks plan (os ++ ps) m why n
-  sticks-after [] ps m l n why Opens.no-more sticks = sticks
-  sticks-after (x ∷ os) ps m l n why (Opens.puts a b rest) sticks = Sticks.later a b (sticks-after os ps _ l n why rest sticks)
+  fails-after : (os ps : List (Opening C)) (m l n : Pile C) (why : Unprepared) → Opens plan os m l → Opening-fails plan ps l why n → Opening-fails plan (os ++ ps) m why n
+  fails-after [] ps m l n why Opens.no-more fails = fails
+  fails-after (x ∷ os) ps m l n why (Opens.puts a b rest) fails = Opening-fails.later a b (fails-after os ps _ l n why rest fails)
 
   -- The next opening event is not put.
-  pub sticks-at : (os : List (Opening C)) (i : ℕ) (o : Opening C) (m l n : Pile C) (why : Unprepared) → o ≡ getD os i o → i < length os
-      → Opens plan (take i os) m l → Sticks plan (o ∷ drop (i + 1) os) l why n → Sticks plan os m why n
-  sticks-at os i o m l n why is short opens sticks =
+  pub fails-at : (os : List (Opening C)) (i : ℕ) (o : Opening C) (m l n : Pile C) (why : Unprepared) → o ≡ getD os i o → i < length os
+      → Opens plan (take i os) m l → Opening-fails plan (o ∷ drop (i + 1) os) l why n → Opening-fails plan os m why n
+  fails-at os i o m l n why is short opens fails =
       let rest = ap (λ x. x ∷ drop (i + 1) os) is ∙ sym (at-drop-more (λ x. x) os i o short) in
-      subst (λ x. Sticks plan x m why n) (ap (λ x. take i os ++ x) rest ∙ take-append-drop i os)
-        (sticks-after (take i os) (o ∷ drop (i + 1) os) m l n why opens sticks)
+      subst (λ x. Opening-fails plan x m why n) (ap (λ x. take i os ++ x) rest ∙ take-append-drop i os)
+        (fails-after (take i os) (o ∷ drop (i + 1) os) m l n why opens fails)
 
   -- The links stay as many.
   pub opens-count : (os : List (Opening C)) (m n : Pile C) → Opens plan os m n → n .count ≡ m .count

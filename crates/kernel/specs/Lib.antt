@@ -5,3 +5,4 @@ pub mod Judging
 pub mod OfRun
 pub mod Stages
 pub mod Preparing
+pub mod Deciding

@@ -20,12 +20,7 @@ use Rattle.model.specs.Lists.{is-none}
 use Rattle.model.specs.Pile.{Pile}
 use Rattle.model.specs.Shape.{Shape, source}
 use Rattle.kernel.specs.declared.routes.Routes.{Routes}
-use Rattle.simulation.specs.Prepare.{Fits, All-fit, Opens, Sticks}
-
--- An answer that says whether something holds.
-abbrev pub Decided : Bool → Type 0 → Type 0
-Decided true holds = holds
-Decided false holds = ¬ holds
+use Rattle.simulation.specs.Prepare.{Fits, All-fit, Opens, Opening-fails}
 
 -- Whether the link k is there and comes from outside.
 abbrev pub outside : Shape → ℕ → Bool
@@ -40,7 +35,7 @@ module _ {C : Type 0} (plan : Shape) (m : Pile C) where
   -- The opening events are put, or the first that is not says why; what was put stays.
   abbrev pub Opened : List (Opening C) → Result (Unit {0}) Unprepared → Pile C → Type 0
   Opened os (Ok done) n = Opens plan os m n
-  Opened os (Err why) n = Sticks plan os m why n
+  Opened os (Err why) n = Opening-fails plan os m why n
 
 -- The routes of the plan, and an empty log with that much room; or the plan back.
 abbrev pub Reserved : Plan → ℕ → Result (Routes × Vec Record Global) Plan → Type 0

@@ -12,6 +12,7 @@ use model::record::Record;
 use model::refusal::Unprepared;
 use std::marker::PhantomData;
 
+pub mod comparing;
 mod passes;
 mod prepare;
 mod questions;

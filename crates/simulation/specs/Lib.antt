@@ -1,10 +1,9 @@
 pub mod Net
 pub mod Simulation
-pub mod Worked
 pub mod View
 pub mod Step
 pub mod Calls
 pub mod Prepare
 pub mod Law
 pub mod Programs
-pub mod WorkedRun
+pub mod Relay

@@ -11,7 +11,7 @@ use Rattle.model.specs.Made.{shape-of}
 use Rattle.model.specs.Shape.{outside-links}
 use Rattle.simulation.specs.Net.{Net}
 use Rattle.simulation.specs.Step.{Nulls}
-use Rattle.simulation.specs.Prepare.{Prepares, Prepared, As-planned, Opens, Sticks, After}
+use Rattle.simulation.specs.Prepare.{Prepares, Prepared, As-planned, Opens, Opening-fails, After}
 use Rattle.simulation.specs.Programs.{program-of}
 use Rattle.kernel.specs.OfRun.{view-of}
 use Rattle.kernel.specs.Preparing.{Opened}
@@ -38,7 +38,11 @@ returns-in-Some g c =
     }) (unfit .0) (unfit .1) (unfit .2), refl, refl)
 
 pub returns-in-Err : need.returns-in-Err
-returns-in-Err g c = (Prepares.no-memory, c .in-Err .ensures tt, refl)
+returns-in-Err g c =
+    (Prepares.no-memory (record {
+      processes = sym (c .args .processes .ok .0) ∙ sym (c .len .ensures) ∙ c .if-len-processes .left ∙ c .processes .ensures .is;
+      links = eqb-true _ _ (sym (c .as-many .ensures) ∙ c .if-not-as-many .left) ∙ c .link-count .ensures;
+    }) (c .in-rest .ensures tt), c .in-Err .ensures tt, refl)
 
 pub returns-in-Err-open : need.returns-in-Err-open
 returns-in-Err-open g c =
@@ -48,7 +52,7 @@ returns-in-Err-open g c =
       processes = sym (c .args .processes .ok .0) ∙ sym (c .len .ensures) ∙ c .if-len-processes .left ∙ c .processes .ensures .is;
       links = eqb-true _ _ (sym (c .as-many .ensures) ∙ c .if-not-as-many .left) ∙ c .link-count .ensures;
     }) (c .in-rest .ensures tt)
-      (subst (λ plan. Sticks (shape-of plan) (c .args .opening .now) (m (c .args .links)) (c .in-Err-open .why) (m (c .open .last .links))) same
+      (subst (λ plan. Opening-fails (shape-of plan) (c .args .opening .now) (m (c .args .links)) (c .in-Err-open .why) (m (c .open .last .links))) same
         (c .in-Err-open .ensures tt)),
     c .into-plan .ensures ∙ c .in-Ok .ensures tt .0, refl)
 

@@ -5,8 +5,8 @@ use lib.ListN.{drop}
 use lib.Seq.{take-all}
 use Rattle.model.specs.declared.refusal.Unprepared.the-variants.{LinkRefused}
 use Rattle.model.specs.Made.{shape-of}
-use Rattle.simulation.specs.Prepare.{Opens, Sticks}
-use Rattle.kernel.proofs.FromOutside.{outside-sound, outside-not, opens-more, sticks-at}
+use Rattle.simulation.specs.Prepare.{Opens, Opening-fails}
+use Rattle.kernel.proofs.FromOutside.{outside-sound, outside-not, opens-more, fails-at}
 use Rattle.kernel.proofs.run.prepare.open.Needs as need
 
 pub loop-event-holds : need.loop-event-holds
@@ -16,8 +16,8 @@ pub returns-then-not-from-outside : need.returns-then-not-from-outside
 returns-then-not-from-outside g c =
     let plan = shape-of (c .args .plan .now) in
     let o = c .event-item .result in
-    sticks-at plan (c .args .opening .now) (c .loop-event .event-index) o _ _ _ _ (c .event-item .is) (c .loop-event-test .taken) (c .loop-event .inv)
-      (Sticks.inside (outside-not plan (o .link) (sym (c .from-outside .ensures) ∙ c .if-not-from-outside .taken)))
+    fails-at plan (c .args .opening .now) (c .loop-event .event-index) o _ _ _ _ (c .event-item .is) (c .loop-event-test .taken) (c .loop-event .inv)
+      (Opening-fails.inside (outside-not plan (o .link) (sym (c .from-outside .ensures) ∙ c .if-not-from-outside .taken)))
 
 pub returns-in-Err : need.returns-in-Err
 returns-in-Err g c =
@@ -28,8 +28,8 @@ returns-in-Err g c =
     let before = m (c .loop-event .links) in
     let from = outside-sound plan (o .link) (sym (c .from-outside .ensures) ∙ c .if-not-from-outside .left) in
     let rest = o ∷ drop (c .loop-event .event-index + 1) (c .args .opening .now) in
-    sticks-at plan (c .args .opening .now) (c .loop-event .event-index) o _ _ _ _ (c .event-item .is) (c .loop-event-test .taken) (c .loop-event .inv)
-      (subst (λ n. Sticks plan rest before (LinkRefused (o .link) (c .in-Err .fault)) n) (sym (refused .1)) (Sticks.refused from (refused .0)))
+    fails-at plan (c .args .opening .now) (c .loop-event .event-index) o _ _ _ _ (c .event-item .is) (c .loop-event-test .taken) (c .loop-event .inv)
+      (subst (λ n. Opening-fails plan rest before (LinkRefused (o .link) (c .in-Err .fault)) n) (sym (refused .1)) (Opening-fails.refused from (refused .0)))
 
 pub loop-event-again : need.loop-event-again
 loop-event-again g c =
