@@ -1,4 +1,4 @@
-//! An exit: where cargo of any kind leaves a net.
+//! An exit, where cargo of any kind leaves a net, and the limits that the settings of all kinds share.
 ghost use mathlib.Core.Bool.{true};
 ghost use mathlib.Core.Path.{_≡_};
 ghost use Rattle.exit.specs.Limits.{between};

@@ -23,7 +23,7 @@ impl Vehicle {
         }
     }
 
-    // What a junction sends as the vehicle leaves it: by the out-port of its turn, if the turn has one.
+    // What a junction sends as the vehicle leaves it at this time, by the out-port of its turn.
     pub fn turned(self, time: u32) -> Option<Sending<Vehicle>>
         ensures { λ r. ⌜ r ≡ turned self time ⌝ }
     {
@@ -33,6 +33,7 @@ impl Vehicle {
                 time,
                 cargo: self.onward(),
             }),
+            // Turn 3 has no port.
             _ => None,
         }
     }
