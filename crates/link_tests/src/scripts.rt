@@ -1,4 +1,7 @@
-//! The scripts.
+//! The scripts, for two links with four places each and no delay.
+ghost use Prim.Native.Nat.{_<_};
+use crate::parcel::Parcel;
+use crate::parcel::ParcelCargo;
 use crate::script::Answer;
 use crate::script::Answer::Arrives;
 use crate::script::Answer::Done;
@@ -16,12 +19,15 @@ use crate::script::Call::Null;
 use crate::script::Call::Put;
 use crate::script::Call::Take;
 use crate::script::Call::Waiting;
+use crate::script::follow;
 use model::fault::LinkFault::BelowFloor;
 use model::fault::LinkFault::NoSuchLink;
 use model::fault::LinkFault::NothingWaits;
 use model::fault::LinkFault::PastLastTime;
+use model::links::Links;
+use std::test::*;
 
-// Two fresh links with four places each and no delay.
+// The links are fresh.
 pub const FRESH: [(Call, Answer); 13] = [
     (Capacity(0), Is(4)),
     (Capacity(1), Is(4)),
@@ -38,7 +44,7 @@ pub const FRESH: [(Call, Answer); 13] = [
     (Take(1), Refused(NothingWaits)),
 ];
 
-// The same links: a full one, and one that stays as it was.
+// One link is filled, and the other stays as it was.
 pub const FILLED: [(Call, Answer); 31] = [
     (Put(0, 5, 70), Done),
     (Put(0, 5, 71), Done),
@@ -74,7 +80,7 @@ pub const FILLED: [(Call, Answer); 31] = [
     (First(1), Arrives(1_000_000_000, 80)),
 ];
 
-// The same links again: all are taken, in the order in which they were put.
+// All are taken, in the order in which they were put.
 pub const TAKEN: [(Call, Answer); 15] = [
     (Take(0), Arrives(5, 70)),
     (Free(0), Is(1)),
@@ -106,3 +112,39 @@ pub const ABSENT: [(Call, Answer); 10] = [
     (Free(2), Refused(NoSuchLink)),
     (Capacity(2), Refused(NoSuchLink)),
 ];
+
+// Two events that stay on link 0 while link 1 goes round.
+pub const STAY: [(Call, Answer); 2] = [(Put(0, 1, 91), Done), (Put(0, 2, 92), Done)];
+
+// They are taken at the end.
+pub const STAYED: [(Call, Answer); 3] = [
+    (Take(0), Arrives(1, 91)),
+    (Take(0), Arrives(2, 92)),
+    (Take(0), Refused(NothingWaits)),
+];
+
+// One turn on link 1, three events put and taken again, from a time on.
+pub fn turn(time: u32) -> [(Call, Answer); 8]
+    requires { ⌜ time < 1000000 ⌝ }
+{
+    let number = time + 5000;
+    [
+        (Put(1, time, number), Done),
+        (Put(1, time + 1, number + 1), Done),
+        (Put(1, time + 2, number + 2), Done),
+        (Free(1), Is(1)),
+        (Take(1), Arrives(time, number)),
+        (Take(1), Arrives(time + 1, number + 1)),
+        (Take(1), Arrives(time + 2, number + 2)),
+        (Take(1), Refused(NothingWaits)),
+    ]
+}
+
+// Goes round link 1 many times over.
+pub fn go_round<L: Links<Parcel>>(links: &mut L, store: u32) -> Result<(), Fail> {
+    follow(links, store, &STAY)?;
+    for i in 0..1000 {
+        follow(links, store, &turn(3 * i))?;
+    }
+    follow(links, store, &STAYED)
+}

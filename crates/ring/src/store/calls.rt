@@ -39,7 +39,8 @@ fn fresh_lanes() -> [Lane; MOST_LINKS]
 }
 
 impl<'a, C: Cargo> Ring<'a, C> {
-    // Shares the slots out evenly among the links; where the numbers are out of range, there are no links.
+    // Shares the slots out evenly among the links, and uses no slot that is left over.
+    // Where the numbers are out of range, there are no links.
     pub fn new(slots: &'a mut [Event<C>], links: usize) -> Self
         ensures { λ r. ⌜ meaning-of r ≡ opened links (length (now (slots .entry))) ⌝ }
     {
