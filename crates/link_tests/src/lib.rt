@@ -6,3 +6,5 @@ mod rings;
 mod script;
 #[cfg(test)]
 mod scripts;
+#[cfg(test)]
+mod stacks;
