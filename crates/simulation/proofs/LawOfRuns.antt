@@ -241,8 +241,7 @@ module _ {C P : Type 0} (g : Program C P) (net : Net C P) (same : Constant g) wh
           → (simulated g net .stopped p ≡ Some (record { choice = record { process = p; link = i; event = e }; breach = b })) × Whole g net v p
       planned-breaches p i e b w safe (Step.breached {s = x} {i = j} {e = d} y sf f l q) =
           let one = one-safe C (net .plan) (v .links) p j i d e sf safe in
-          let ev : entry j d ≡ entry i e = ap₂ entry (one .0) (one .1) in
-          (
+          let ev : entry j d ≡ entry i e = ap₂ entry (one .0) (one .1) in (
             breach-there p b x j d y sf q ∙ ap (λ (n : Entry C). Some (record { choice = record { process = p; link = n .link; event = n .event }; breach = b })) ev,
             whole p (stuck-there p b x j d y sf q .0),
           )
@@ -274,8 +273,7 @@ law g same far net v w cs ds a b =
     let limits = after-limits g net same a in
     let ok = after-proper g net same (far net limits) a in
     let x = reaches g net same limits ok a in
-    let y = reaches g net same limits ok b in
-    (
+    let y = reaches g net same limits ok b in (
       agree g net same (far net limits) limits ok v w x y,
       follows-simulation g net same (far net limits) limits ok v x,
       follows-simulation g net same (far net limits) limits ok w y,

@@ -88,18 +88,24 @@ module _ {C S : Type 0} (sys : System C S) where
   -- With the smallest reach, as many levels as it goes into the horizon, rounded up, will do; without links from processes, none.
   pub levels : (o : Option ℕ) → ((k : ℕ) → k < sys .links → sys .source k < sys .processes → Bounds o (sys .lookahead (sys .source k) + sys .delay k)) → Positive o
       → (level : ℕ → ℕ) × Levels level (crossings (sys .horizon) o)
-  levels None b p = (λ z. sys .horizon, record {
-    start = λ k l q. absurd (b k l q);
-    next-level = λ z k l q. omega arith;
-    capped = λ z. omega arith;
-    full = λ z l. omega arith;
-  })
-  levels (Some r) b p = (λ z. min (sys .horizon) (z * r), record {
-    start = λ k l q. omega arith;
-    next-level = λ z k l q. let i = b k l q in omega arith;
-    capped = λ z. omega arith;
-    full = λ z l. let m = mul-le-mul-right r l in let u = rounded-up (sys .horizon) r p in omega arith;
-  })
+  levels None b p = (
+    λ z. sys .horizon,
+    record {
+      start = λ k l q. absurd (b k l q);
+      next-level = λ z k l q. omega arith;
+      capped = λ z. omega arith;
+      full = λ z l. omega arith;
+    },
+  )
+  levels (Some r) b p = (
+    λ z. min (sys .horizon) (z * r),
+    record {
+      start = λ k l q. omega arith;
+      next-level = λ z k l q. let i = b k l q in omega arith;
+      capped = λ z. omega arith;
+      full = λ z l. let m = mul-le-mul-right r l in let u = rounded-up (sys .horizon) r p in omega arith;
+    },
+  )
 
   module _ (ok : Proper sys) (h : ℕ → List (Entry C)) (merged : Merged sys h) (quiet : (p : ℕ) → p < sys .processes → Quiet sys h p)
       (level : ℕ → ℕ) (Z : ℕ) (levels : Levels level Z) where
