@@ -20,6 +20,14 @@ abbrev pub delay-of : Option Link → ℕ
 delay-of None = 0
 delay-of (Some l) = l .delay
 
+-- The links that lead from a process, rising.
+abbrev pub leaving : List Link → ℕ → List ℕ
+leaving links p = numbers-below (length links) (λ k. is p (then (at links k) (λ l. l .from)))
+
+-- The links that lead to a process, rising.
+abbrev pub reaching : List Link → ℕ → List ℕ
+reaching links p = numbers-below (length links) (λ k. is p (then (at links k) (λ l. Some (l .to))))
+
 module _ (plan : Shape) where
   -- The process from which a link leads; none if it comes from outside.
   abbrev pub source : ℕ → Option ℕ
@@ -35,11 +43,11 @@ module _ (plan : Shape) where
 
   -- The links from a process, rising: an out-port is a place in this list.
   abbrev pub out-links : ℕ → List ℕ
-  out-links p = numbers-below (length (plan .links)) (λ k. is p (source k))
+  out-links p = leaving (plan .links) p
 
   -- The links to a process, rising: an in-port is a place in this list.
   abbrev pub in-links : ℕ → List ℕ
-  in-links p = numbers-below (length (plan .links)) (λ k. is p (target k))
+  in-links p = reaching (plan .links) p
 
   -- The links from outside, rising.
   abbrev pub outside-links : List ℕ

@@ -5,6 +5,7 @@ pub mod event;
 pub mod fault;
 pub mod link;
 pub mod links;
+pub mod numbered;
 pub mod opening;
 pub mod plan;
 pub mod process;

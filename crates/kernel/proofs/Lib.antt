@@ -1,0 +1,12 @@
+pub mod Scan
+pub mod Telling
+pub mod Words
+pub mod Selected
+pub mod ByLink
+pub mod Judged
+pub mod Standing
+pub mod Handled
+pub mod Assembled
+pub mod Called
+pub mod Recorded
+pub mod FromOutside

@@ -1,0 +1,34 @@
+use mathlib.Core.Path.{_≡_, sym, subst, _∙_}
+use mathlib.Core.Bool.{Bool}
+use Prim.Native.Nat.{ℕ}
+use native.Mathlib.Omega.{arith}
+use lib.ListN.{length}
+use Rattle.std.specs.Of.Vec.{vec-items}
+use Rattle.model.specs.Lists.{is}
+use Rattle.model.specs.Shape.{in-links, target}
+use Rattle.model.specs.Made.{shape-of}
+use Rattle.kernel.specs.Places.{Below, Rising}
+use Rattle.kernel.proofs.Selected.{row, rows, selects}
+use Rattle.kernel.proofs.routes.Routes.ins.Needs as need
+
+pub index-requires : need.index-requires
+index-requires c κs =
+    let s = c .args .self .now in
+    omega (arith, c .pre, rows (in-links (shape-of (s .plan))) (s .ins) (s .plan .processes) (s .arrivals))
+
+pub returns : need.returns
+returns c =
+    let s = c .args .self .now in
+    let p = c .args .process in
+    let links = vec-items (s .plan .links) in
+    let there = rows (in-links (shape-of (s .plan))) (s .ins) (s .plan .processes) (s .arrivals) in
+    let is-links = c .as-slice .ensures .value
+      ∙ row (in-links (shape-of (s .plan))) (s .ins) (s .plan .processes) p (c .index .result .now) (s .arrivals) (c .pre)
+        (omega (arith, c .pre, there)) (c .index .ensures) in
+    let test : ℕ → Bool = λ k. is p (target (shape-of (s .plan)) k) in
+    let all = selects (length links) test in
+    record {
+      value = is-links;
+      below = subst (Below (length links)) (sym is-links) (all .below);
+      rising = subst Rising (sym is-links) (all .rising);
+    }

@@ -1,0 +1,5 @@
+use Rattle.kernel.proofs.Called.{called}
+use Rattle.kernel.proofs.run.Run.step.Needs as need
+
+pub returns : need.returns
+returns g c = called _ _ _ _ _ (c .once .ensures)

@@ -1,0 +1,6 @@
+// What a test was to be given, and was not.
+#[derive(Clone, Copy, Debug)]
+pub enum Missing {
+    WithinLimits,
+    Sent,
+}

@@ -1,0 +1,3 @@
+pub mod Delaying
+pub mod Freshness
+pub mod Rationing

@@ -1,0 +1,4 @@
+pub mod Layer
+pub mod Delayed
+pub mod Rationed
+pub mod Soundness

@@ -1,0 +1,9 @@
+use mathlib.Core.Path.{refl}
+use Rattle.model.specs.Made.{shape-of}
+use Rattle.model.proofs.Limits.{limits}
+use Rattle.model.proofs.plan.Plan.processes.Needs as need
+
+pub returns : need.returns
+returns c =
+    let plan = c .args .self .now in
+    record { is = refl; few = limits (shape-of plan) (plan .limits) .few-processes }

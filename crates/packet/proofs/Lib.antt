@@ -1,0 +1,2 @@
+mod SameFrame
+mod SameSwitch

@@ -1,0 +1,5 @@
+pub mod Places
+pub mod Opening
+pub mod Rows
+pub mod Putting
+pub mod Taking

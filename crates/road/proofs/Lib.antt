@@ -1,0 +1,2 @@
+mod SameVehicle
+mod SameSignal

@@ -1,0 +1,4 @@
+//! Road plans: vehicles, and the junctions that they cross.
+pub mod kind;
+pub mod signal;
+pub mod vehicle;

@@ -1,0 +1,5 @@
+pub mod Decimal
+pub mod Fields
+pub mod Grammar
+pub mod Lines
+pub mod Writing
