@@ -33,18 +33,21 @@ module _ {C S : Type 0} (sys : System C S) (s : Kernel C) (p : ℕ) where
   unfolding clock-below
   clock-suc m = if-cases (sys .target m) p (min (link-clock sys s m) (clock-below sys s p m)) (clock-below sys s p m)
 
+  -- No link below m that leads to p has an earlier clock.
   below-least : (m k : ℕ) → k < m → sys .target k ≡ p → clock-below sys s p m ≤ link-clock sys s k
   below-least zero k l t = absurd (omega arith)
   below-least (suc m) k l t = by-cases (ℕ-discrete k m)
       (λ q. ⊎-elim (λ c. rw (c .1, q) (omega arith)) (λ c. absurd (c .0 (rw (← q) t))) (clock-suc m))
       (λ n. let i = below-least m k (omega arith) t in let c = clock-suc m in omega arith)
 
+  -- The clock below m is the greatest number with that property.
   below-greatest : (v : ℕ) → v ≤ sys .horizon → (m : ℕ) → ((k : ℕ) → k < m → sys .target k ≡ p → v ≤ link-clock sys s k) → v ≤ clock-below sys s p m
   below-greatest v b zero f = unfold clock-below in b
   below-greatest v b (suc m) f =
       let i = below-greatest v b m (λ k l t. f k (omega arith) t) in
       ⊎-elim (λ c. let g = f m (omega arith) (c .0) in rw (c .1) (omega arith)) (λ c. rw (c .1) i) (clock-suc m)
 
+  -- It is no later than the horizon.
   below-horizon : (m : ℕ) → clock-below sys s p m ≤ sys .horizon
   below-horizon zero = unfold clock-below in omega arith
   below-horizon (suc m) = let i = below-horizon m in let c = clock-suc m in omega arith
@@ -70,7 +73,9 @@ module _ {C S : Type 0} (sys : System C S) (s : Kernel C) (p : ℕ) where
     soon : clock-below sys s p m < sys .horizon
     first : (j : ℕ) → j < m → sys .target j ≡ p → j ≢ i → Before (clock-below sys s p m) i (link-clock sys s j) j
 
-  first-kept : (m : ℕ) → clock-below sys s p (suc m) ≡ clock-below sys s p m → (sys .target m ≡ p → clock-below sys s p m ≤ link-clock sys s m) → First m → First (suc m)
+  -- A further link whose clock is not earlier leaves the first one.
+  first-kept : (m : ℕ) → clock-below sys s p (suc m) ≡ clock-below sys s p m → (sys .target m ≡ p → clock-below sys s p m ≤ link-clock sys s m)
+      → First m → First (suc m)
   first-kept m e l f =
       let b = f .below in
       let o = f .soon in
@@ -85,6 +90,7 @@ module _ {C S : Type 0} (sys : System C S) (s : Kernel C) (p : ℕ) where
             (λ q. f .first j (omega arith) t n));
       }
 
+  -- A further link whose clock is earlier becomes the first one.
   first-new : (m : ℕ) → sys .target m ≡ p → clock-below sys s p (suc m) ≡ link-clock sys s m → link-clock sys s m < clock-below sys s p m → First (suc m)
   first-new m t e l =
       let h = below-horizon m in
@@ -97,6 +103,7 @@ module _ {C S : Type 0} (sys : System C S) (s : Kernel C) (p : ℕ) where
         first = λ j d u n. let g = below-least m j (omega arith) u in omega arith;
       }
 
+  -- The clock is the horizon, or there is a first link that holds it.
   first-link : (m : ℕ) → (clock-below sys s p m ≡ sys .horizon) ⊎ First m
   first-link zero = inl (unfold clock-below in refl)
   first-link (suc m) = ⊎-elim
@@ -108,7 +115,8 @@ module _ {C S : Type 0} (sys : System C S) (s : Kernel C) (p : ℕ) where
       (clock-suc m)
 
   -- Where no event is safe, the clock is the horizon or the floor of an empty in-link.
-  pub idle-clock : p < sys .processes → ((e : Entry C) → ¬ (Safe sys s p e)) → (v : ℕ) → v ≤ sys .horizon → ((k : ℕ) → k < sys .links → v ≤ s .floor k) → v ≤ clock sys s p
+  pub idle-clock : p < sys .processes → ((e : Entry C) → ¬ (Safe sys s p e)) → (v : ℕ) → v ≤ sys .horizon
+      → ((k : ℕ) → k < sys .links → v ≤ s .floor k) → v ≤ clock sys s p
   idle-clock q idle v b f = ⊎-elim (λ h. rw h b) (λ o. go o (waiting sys s (o .i)) refl) (first-link (sys .links))
     where
       go : (o : First (sys .links)) (w : Option (Event C)) → waiting sys s (o .i) ≡ w → v ≤ clock sys s p

@@ -17,7 +17,8 @@ use Rattle.simulation.proofs.Histories.{nth, _⊑_, same, more, ⊑-empty, ⊑
 use Rattle.simulation.proofs.System.{System, Entry, newest, taken, answer, arrives, post, sent, last, next, Fine, Fair, Lowest, Stuck, Proper}
 use Rattle.simulation.proofs.SentEvents.{sent-⊑, origin, last-⊑}
 use Rattle.simulation.proofs.MergeLaw.{Merged, Settled, lowest-same, later}
-use Rattle.simulation.proofs.Kernel.{Kernel, Counted, opened-floor, nulled-floor, first-floor, boot, waiting, link-clock, clock, Safe, raised, take-event, promise, tell, Act, idle, takes, refused, marks, rounds-up, Gets, boots, ticks}
+use Rattle.simulation.proofs.Kernel.{Kernel, Counted, opened-floor, nulled-floor, first-floor, boot, waiting, link-clock, clock, Safe, raised, take-event, promise, tell}
+use Rattle.simulation.proofs.Kernel.{Act, idle, takes, refused, marks, rounds-up, Gets, boots, ticks}
 use Rattle.simulation.proofs.Clocks.{due-some, due-none, clock-least}
 
 module _ {C S : Type 0} (sys : System C S) where
@@ -38,6 +39,7 @@ module _ {C S : Type 0} (sys : System C S) where
       (λ d. inl (if-other (x .link) k (arrives sys k x ∷ ms) ms d, if-other k (x .link) (x .time + sys .delay (x .link)) (f k) (λ e. d (sym e))))
 
   module _ (ok : Proper sys) (s : Kernel C) (p : ℕ) (l : p < sys .processes) (e : Entry C) where
+    -- The histories once p has taken e.
     abbrev h′ : ℕ → List (Entry C)
     h′ = update (s .h) p (e ∷ s .h p)
 
@@ -67,7 +69,8 @@ module _ {C S : Type 0} (sys : System C S) where
 
     module _ (s : Kernel C) (follows : Follows s) where
       -- Nothing arrives below the floor any more.
-      floor-sound : (k n : ℕ) (b : Event C) → length (sent sys k (s .h (sys .source k))) ≤ n → nth (sent sys k (h (sys .source k))) n ≡ Some b → s .floor k ≤ b .time
+      floor-sound : (k n : ℕ) (b : Event C) → length (sent sys k (s .h (sys .source k))) ≤ n → nth (sent sys k (h (sys .source k))) n ≡ Some b
+          → s .floor k ≤ b .time
       floor-sound k n b l g =
           let q = sys .source k in
           let o = origin sys k (follows .begins q) n b l g in
@@ -207,6 +210,7 @@ module _ {C S : Type 0} (sys : System C S) where
       tight = λ k us e a b l. rw (if-pos (decLt (sys .source k) (sys .processes)) (l .is-process) (opened-floor sys k) (nulled-floor sys k)) (omega arith);
     }
 
+    -- A step keeps the kernel on the way.
     act-follows : Settled sys h → {s : Kernel C} {p : ℕ} {s′ : Kernel C} → Follows s → Act sys s p s′ → Follows s′
     act-follows settled {s = s} {p = p} f (idle l n) = tell-follows s f p
     act-follows settled {s = s} {p = p} f (takes e a g) = tell-follows (take-event sys s p e) (take-follows s f settled p e a g) p

@@ -114,6 +114,7 @@ module _ {A : Type 0} where
       (λ e. inl (e, some-same (rw e (nth-new x xs)) h))
       (λ d. inr (sym (nth-old x xs n d) ∙ h))
 
+  -- Below the length of a beginning, the whole has the same elements.
   nth-⊑ : {xs ys : List A} → xs ⊑ ys → (n : ℕ) → n < length xs → nth ys n ≡ nth xs n
   nth-⊑ same n h = refl
   nth-⊑ (more {y = y} {ys = ys} a) n h = let l = ⊑-length a in nth-old y ys n (omega arith) ∙ nth-⊑ a n h
@@ -126,6 +127,7 @@ module _ {A : Type 0} where
   pub drop-more : (x : A) (xs : List A) (n : ℕ) → n ≤ length xs → drop n (reverse (x ∷ xs)) ≡ drop n (reverse xs) ++ x ∷ []
   drop-more x xs n l = ap (drop n) (reverse-cons x xs) ∙ drop-append-le n (reverse xs) (x ∷ []) (rw (length-reverse xs) l)
 
+  -- The oldest of a list stays the oldest as more is added.
   oldest-append : (xs ys : List A) (a : A) → oldest xs ≡ Some a → oldest (xs ++ ys) ≡ Some a
   oldest-append [] ys a e = none-is-some e
   oldest-append (x ∷ xs) ys a e = e

@@ -45,10 +45,12 @@ use Rattle.simulation.proofs.LinksOfRun.{clocks}
 use Rattle.simulation.proofs.StepsOfRun.{Shows, Moved, planned, planned-same, stepped, look, kernel-safe, answers}
 use Rattle.simulation.proofs.PreparedRun.{opening-rising, prepared-shows}
 
+-- A history has as many records as entries.
 length-records : {A : Type 0} (f : A → Record) (xs : List A) → length (map f (reverse xs)) ≡ length xs
 length-records f xs = length-map (reverse xs) f ∙ length-reverse xs
 
 module _ {C P : Type 0} (g : Program C P) (net : Net C P) (same : Constant g) where
+  -- The net as a system.
   abbrev N : System C (Option P)
   N = system g net
 
@@ -60,18 +62,22 @@ module _ {C P : Type 0} (g : Program C P) (net : Net C P) (same : Constant g) wh
 
   -- Every call leads there.
   module _ (limits : Limits net) (ok : Proper N) where
+    -- A step leads on.
     step : {v w : View C P} (r : Reached v) → Moved g net (r .c) w → Reached w
     step r m = record { c = m .to; gets = ticks (r .gets) (m .tick); shows = m .shows }
 
+    -- So does a pass.
     pass : {v w : View C P} {n : ℕ} {q : Bool} → Reached v → Pass g v n q w → Reached w
     pass r Pass.begins = r
     pass r (Pass.steps {p = p} {w = u} {u = w} {r = a} x s) =
         let i = pass r x in step i (stepped g net same limits ok u (i .c) (i .gets) (i .shows) p a w s)
 
+    -- So do passes.
     passes : {v w : View C P} {n : ℕ} {q : Bool} → Reached v → Passes g v n q w → Reached w
     passes r Passes.none = r
     passes r (Passes.another x p) = pass (passes r x) p
 
+    -- So does each call.
     does : (c : Call) (v w : View C P) (a : Answer C c) → Reached v → Does g c v a w → Reached w
     does (Call.step p) v w a r d = step r (stepped g net same limits ok v (r .c) (r .gets) (r .shows) p a w d)
     does (Call.run n) v w a r d = passes r (d .passes)
@@ -81,6 +87,7 @@ module _ {C P : Type 0} (g : Program C P) (net : Net C P) (same : Constant g) wh
     does Call.ask-rounds v w a r d = subst Reached (sym (d .1)) r
     does Call.ask-done v w a r d = subst Reached (sym (d .1)) r
 
+    -- So a run stands, after any calls, where some kernel gets.
     reaches : {cs : List Call} {v : View C P} → After g net cs v → Reached v
     reaches (After.prepared {v = v} pd) = record { c = record { kernel = boot N; marked = λ (q : ℕ). false; rounds = 0 }; gets = boots; shows = prepared-shows g net v pd }
     reaches (After.called {v = v} {w = w} c a x d) = does c v w a (reaches x) d
@@ -96,24 +103,31 @@ module _ {C P : Type 0} (g : Program C P) (net : Net C P) (same : Constant g) wh
   after-proper far (After.called c a x d) = after-proper far x
 
   module _ (far : Reaching g net) (limits : Limits net) (ok : Proper N) where
+    -- The simulation is at its end.
     over : Over g net
     over = simulation-over g net same far limits
 
+    -- Its end, told by histories.
     abbrev end : Course C
     end = told g net same limits ok .course
 
+    -- The course ends there.
     ends : Ends N end
     ends = course-ends g net same limits ok over
 
+    -- Its histories are merged.
     merged : Merged N (end .h)
     merged = ends-merged N ok ends
 
+    -- And settled.
     settled : Settled N (end .h)
     settled = ends-settled N ok ends
 
+    -- The simulation's histories are theirs.
     sim-histories : (p : ℕ) → simulated g net .history p ≡ map (to-record g net p) (reverse (end .h p))
     sim-histories = told g net same limits ok .mirrors .histories
 
+    -- And its stops.
     sim-stops : (p : ℕ) → Same-stop g net p (end .h p) (simulated g net .stopped p) (end .stopped p)
     sim-stops = told g net same limits ok .mirrors .stops
 
@@ -135,9 +149,11 @@ module _ {C P : Type 0} (g : Program C P) (net : Net C P) (same : Constant g) wh
         go (Some z) i x q w = none-is-some (sym q)
 
     module _ (v : View C P) (r : Reached v) where
+      -- The kernel where the run stands.
       abbrev s : Kernel C
       s = r .c .kernel
 
+      -- It is on the way to the end of the simulation.
       follows : F.Follows N ok (end .h) merged s
       follows = gets-follows N ok (end .h) merged settled (r .gets)
 
@@ -145,6 +161,7 @@ module _ {C P : Type 0} (g : Program C P) (net : Net C P) (same : Constant g) wh
       whole : (p : ℕ) → s .h p ≡ end .h p → Whole g net v p
       whole p e = r .shows .histories p ∙ ap (λ z. map (to-record g net p) (reverse z)) e ∙ sym (sim-histories p)
 
+      -- Each history of the run begins the simulation's.
       begins : (p : ℕ) → Begins (history p (v .log)) (simulated g net .history p)
       begins p =
           let x = ⊑-reverse (follows .begins p) in (
@@ -153,13 +170,15 @@ module _ {C P : Type 0} (g : Program C P) (net : Net C P) (same : Constant g) wh
                 ∙ ap (λ z. z ++ map (to-record g net p) (x .0)) (sym (r .shows .histories p)),
           )
 
+      -- With R rounds, every clock is the horizon and every history is whole.
       in-time : None-stopped g net → round-figure g net ≤ v .rounds → (p : ℕ) → p < net .plan .processes
           → (clock (v .plan) (v .links) p ≡ net .plan .horizon) × Whole g net v p
       in-time n l p i =
           let m = r .shows .rounds in
           let e = figure in
           let o = least-reach g net (length (net .plan .links)) in
-          let z = levels N o (λ k k1 k2. reach-bounds g net limits (length (net .plan .links)) k (omega arith) k1 k2) (reach-positive g net limits far (length (net .plan .links)) (omega arith)) in
+          let z = levels N o (λ k k1 k2. reach-bounds g net limits (length (net .plan .links)) k (omega arith) k1 k2)
+          (reach-positive g net limits far (length (net .plan .links)) (omega arith)) in
           let x = finishes N ok (end .h) merged (all-quiet n) (z .0) (crossings (net .plan .horizon) o) (z .1) (r .gets) (omega arith) p i in
           (ap (λ (y : Shape). clock y (v .links) p) (r .shows .plan) ∙ clocks g net (v .links) s (r .shows .links) p ∙ x .1, whole p (x .0))
 
@@ -173,31 +192,39 @@ module _ {C P : Type 0} (g : Program C P) (net : Net C P) (same : Constant g) wh
           all-there : p < net .plan .processes → s .h p ≡ end .h p
           all-there l =
               let t = and-true (as-prepared (planned g net v)) (each (net .plan .processes) (λ q. eqb (clock (net .plan) (v .links) q) (net .plan .horizon))) here .1 in
-              let e = eqb-true (clock (net .plan) (v .links) p) (net .plan .horizon) (each-true (net .plan .processes) (λ q. eqb (clock (net .plan) (v .links) q) (net .plan .horizon)) t p l) in
+              let e = eqb-true (clock (net .plan) (v .links) p) (net .plan .horizon)
+              (each-true (net .plan .processes) (λ q. eqb (clock (net .plan) (v .links) q) (net .plan .horizon)) t p l) in
               let f = clocks g net (v .links) s (r .shows .links) p in
               all-taken N ok (end .h) merged s follows p (omega arith)
 
       -- A step of the state x finds that the safe event e is the breach b.
       module _ (p : ℕ) (b : Breach) (x : P) (i : ℕ) (e : Event C) (ready : Ready (planned g net v) p x) (safe : Safe (net .plan) (v .links) p i e)
           (q : breach g (planned g net v) p x i e ≡ Some b) where
+        -- The event as an entry.
         abbrev ev : Entry C
         ev = entry i e
 
+        -- What goes out as it is handled.
         abbrev out : Option (Outgoing C)
         out = handle g (net .plan) p x i e .1
 
+        -- The system sends the same.
         sends : answer N p (s .h p) ev ≡ out
         sends = answers g net same limits ok v (r .c) (r .gets) (r .shows) p x ready i e safe
 
+        -- The lookahead is the first one.
         looks : g .lookahead x ≡ N .lookahead p
         looks = look g net same limits ok v (r .c) (r .gets) (r .shows) p x ready
 
+        -- The event is safe in the kernel.
         is-safe : K.Safe N s p ev
         is-safe = kernel-safe g net same limits ok v (r .c) (r .gets) (r .shows) p x ready i e safe
 
+        -- What goes out goes on a link that is there.
         own-link : (y : Outgoing C) → out ≡ Some y → y .link < length (net .plan .links)
         own-link y w = ok .own p (is-safe .is-process) (s .h p) ev y (sends ∙ w) .0
 
+        -- It is a breach by the floors of the kernel.
         not-fine : ¬ (Fine N p (s .h p) ev (s .floor))
         not-fine fine =
             let B = breach-some p (e .time + g .lookahead x) (v .links .delay) (v .links .floor) out b q in
@@ -222,6 +249,7 @@ module _ {C P : Type 0} (g : Program C P) (net : Net C P) (same : Constant g) wh
             breach-same p (e .time + g .lookahead x) (delay (net .plan)) (v .links .delay) (λ j. last N j (s .h p)) (v .links .floor) out d b
             (λ y u. r .shows .links .delays (y .link) (own-link y u)) here q
 
+        -- So the simulation stops p at that event and by that breach.
         breach-there : simulated g net .stopped p ≡ Some (record { choice = record { process = p; link = i; event = e }; breach = b })
         breach-there = go (simulated g net .stopped p) refl (end .stopped p) (sim-stops p) (stuck-stopped N ok ends p ev (stuck-there .1))
           where
@@ -232,30 +260,35 @@ module _ {C P : Type 0} (g : Program C P) (net : Net C P) (same : Constant g) wh
             go (Some z) u None y w = absurd y
             go (Some z) u (Some d) y w =
                 let one : d ≡ ev = some-same refl w in
-                let c : z .choice ≡ record { process = p; link = i; event = e } = y .0 ∙ ap (λ (n : Entry C). record { process = p; link = n .link; event = n .event }) one in
+                let c : z .choice ≡ record { process = p; link = i; event = e } =
+                y .0 ∙ ap (λ (n : Entry C). record { process = p; link = n .link; event = n .event }) one in
                 let t : z .breach ≡ b = same-breach (z .breach) (ap (breach-at g net p (end .h p)) (sym one) ∙ y .1) in
                 let all : z ≡ record { choice = record { process = p; link = i; event = e }; breach = b } = λ j. record { choice = c j; breach = t j } in
                 u ∙ ap (λ (n : Stop C). Some n) all
 
-      planned-breaches : (p i : ℕ) (e : Event C) (b : Breach) (w : View C P) → Safe (net .plan) (v .links) p i e → Step g (planned g net v) p (Err (Breached b)) w
+      -- A breach that a step reports, over the plan of the net.
+      planned-breaches : (p i : ℕ) (e : Event C) (b : Breach) (w : View C P) → Safe (net .plan) (v .links) p i e
+          → Step g (planned g net v) p (Err (Breached b)) w
           → (simulated g net .stopped p ≡ Some (record { choice = record { process = p; link = i; event = e }; breach = b })) × Whole g net v p
       planned-breaches p i e b w safe (Step.breached {s = x} {i = j} {e = d} y sf f l q) =
           let one = one-safe C (net .plan) (v .links) p j i d e sf safe in
-          let ev : entry j d ≡ entry i e = ap₂ entry (one .0) (one .1) in
-          (
+          let ev : entry j d ≡ entry i e = ap₂ entry (one .0) (one .1) in (
             breach-there p b x j d y sf q ∙ ap (λ (n : Entry C). Some (record { choice = record { process = p; link = n .link; event = n .event }; breach = b })) ev,
             whole p (stuck-there p b x j d y sf q .0),
           )
 
+      -- The same, over the plan of the run.
       breaches : (p i : ℕ) (e : Event C) (b : Breach) (w : View C P) → Safe (v .plan) (v .links) p i e → Step g v p (Err (Breached b)) w
           → (simulated g net .stopped p ≡ Some (record { choice = record { process = p; link = i; event = e }; breach = b })) × Whole g net v p
       breaches p i e b w safe st = planned-breaches p i e b w
           (subst (λ (z : Shape). Safe z (v .links) p i e) (r .shows .plan) safe)
           (subst (λ (z : View C P). Step g z p (Err (Breached b)) w) (sym (planned-same g net v (r .shows .plan))) st)
 
+      -- All that the law says of one run.
       follows-simulation : Follows g net v
       follows-simulation = record { over = over; begins = begins; in-time = in-time; finished = finished; breaches = breaches }
 
+    -- And of two: histories that are equally long are equal.
     agree : (v w : View C P) → Reached v → Reached w → Agree v w
     agree v w x y p = (
       λ e. ap length e,
@@ -274,8 +307,7 @@ law g same far net v w cs ds a b =
     let limits = after-limits g net same a in
     let ok = after-proper g net same (far net limits) a in
     let x = reaches g net same limits ok a in
-    let y = reaches g net same limits ok b in
-    (
+    let y = reaches g net same limits ok b in (
       agree g net same (far net limits) limits ok v w x y,
       follows-simulation g net same (far net limits) limits ok v x,
       follows-simulation g net same (far net limits) limits ok w y,

@@ -29,6 +29,7 @@ use Rattle.simulation.proofs.PlanLimits.{leads, target-there}
 use Rattle.simulation.proofs.OfNet.{or-outside, system, from-target}
 use Rattle.simulation.proofs.NullsAndOpenings.{Told}
 
+-- The smallest clock with one link more.
 least-append : {C : Type 0} (m : Pile C) (h : ℕ) (xs : List ℕ) (k : ℕ) → least-clock m h (xs ++ k ∷ []) ≡ min (link-clock m k) (least-clock m h xs)
 least-append m h [] k = refl
 least-append m h (x ∷ xs) k = let i = least-append m h xs k in omega arith
@@ -40,6 +41,7 @@ least-more m h xs k true = least-append m h xs k
 least-more m h xs k false = ap (least-clock m h) (append-nil xs)
 
 module _ {C P : Type 0} (g : Program C P) (net : Net C P) where
+  -- The net as a system.
   abbrev N : System C (Option P)
   N = system g net
 
@@ -50,17 +52,22 @@ module _ {C P : Type 0} (g : Program C P) (net : Net C P) where
     pub queues : (k : ℕ) → k < length (net .plan .links) → m .waiting k ≡ queue N (s .h) k
     pub floors : (k : ℕ) → k < length (net .plan .links) → m .floor k ≡ s .floor k
 
+  -- A link that leads to p in the plan leads there in the system.
   to-target : (k p : ℕ) → target (net .plan) k ≡ Some p → N .target k ≡ p
   to-target k p e = ap (or-outside g net) e
 
   module _ (m : Pile C) (s : Kernel C) (h : Holds m s) where
+    -- The first event of a link is the one that waits first.
     first-waits : (k : ℕ) → k < length (net .plan .links) → oldest (m .waiting k) ≡ waiting N s k
     first-waits k l = ap oldest (h .queues k l) ∙ sym (queue-first N (s .h) k)
 
+    -- The clock of a link is that of the kernel.
     link-clocks : (k : ℕ) → k < length (net .plan .links) → link-clock m k ≡ K.link-clock N s k
     link-clocks k l = ap (λ (o : Option (Event C)). due o (m .floor k)) (first-waits k l) ∙ ap (due (waiting N s k)) (h .floors k l)
 
-    clocks-below : (p n : ℕ) → n ≤ length (net .plan .links) → least-clock m (net .plan .horizon) (numbers-below n (λ k. is p (target (net .plan) k))) ≡ clock-below N s p n
+    -- So is the smallest clock of the in-links below a number.
+    clocks-below : (p n : ℕ) → n ≤ length (net .plan .links)
+        → least-clock m (net .plan .horizon) (numbers-below n (λ k. is p (target (net .plan) k))) ≡ clock-below N s p n
     unfolding clock-below
     clocks-below p zero l = refl
     clocks-below p (suc n) l =
@@ -106,6 +113,7 @@ module _ {C P : Type 0} (g : Program C P) (net : Net C P) where
           by-cases (decLt (e .event .time) (link-clock m j)) (λ x. inl x) (λ x. inr (omega arith, b .tie (omega arith)));
     }
 
+    -- A link comes from p in the plan as in the system.
     from-is : (p : ℕ) → p < net .plan .processes → (o : Option ℕ) → is p o ≡ eqb (or-outside g net o) p
     from-is p l None = sym (ne-eqb (net .plan .processes) p (λ e. let z : ⊥ = omega arith in z))
     from-is p l (Some q) = refl
@@ -133,26 +141,32 @@ module _ {C P : Type 0} (g : Program C P) (net : Net C P) where
   -- p takes its safe event e of the link i, and what it sends is put.
   module _ (ok : Proper N) (m : Pile C) (s : Kernel C) (h : Holds m s) (n : Enough N (s .h)) (p i : ℕ) (e : Event C) (a : K.Safe N s p (entry i e))
       (u : Pile C) (t : TakeDone m i e u) where
+    -- The event as an entry.
     abbrev ev : Entry C
     ev = entry i e
 
+    -- Once the event is taken, it is gone from its link.
     taken-waiting : (k : ℕ) → k < length (net .plan .links) → u .waiting k ≡ without k ev (m .waiting k)
     taken-waiting k l = let c = h .count in by-cases (ℕ-discrete i k)
         (λ q. subst (λ (x : ℕ). u .waiting x ≡ without x ev (m .waiting x)) q (ap tail (sym (t .waiting)) ∙ sym (if-same i i (tail (m .waiting i)) (m .waiting i) refl)))
         (λ d. t .apart .waiting k (omega arith) (λ q. d (sym q)) ∙ sym (if-other i k (tail (m .waiting k)) (m .waiting k) d))
 
+    -- The floors stay.
     taken-floor : (k : ℕ) → k < length (net .plan .links) → u .floor k ≡ s .floor k
     taken-floor k l = let c = h .count in by-cases (ℕ-discrete k i)
         (λ q. rw q (t .floor) ∙ h .floors k l)
         (λ d. t .apart .floor k (omega arith) d ∙ h .floors k l)
 
+    -- The delays stay.
     taken-delay : (k : ℕ) → k < length (net .plan .links) → u .delay k ≡ delay (net .plan) k
     taken-delay k l = let c = h .count in t .steady .settled k (omega arith) .delay ∙ h .delays k l
 
     -- The queue of the kernel after it, once the sending is known.
-    queue-after : (o : Option (Outgoing C)) → answer N p (s .h p) ev ≡ o → (k : ℕ) → put-last N k o (without k ev (queue N (s .h) k)) ≡ queue N (take-event N s p ev .h) k
+    queue-after : (o : Option (Outgoing C)) → answer N p (s .h p) ev ≡ o → (k : ℕ)
+        → put-last N k o (without k ev (queue N (s .h) k)) ≡ queue N (take-event N s p ev .h) k
     queue-after o q k = sym (queue-take N ok (s .h) n p ev (a .is-process) (a .mine) (a .waits) k ∙ ap (λ z. put-last N k z (without k ev (queue N (s .h) k))) q)
 
+    -- Then the links hold what the kernel says once it has taken the event.
     pub takes-out : (o : Option (Outgoing C)) (w : Pile C) → answer N p (s .h p) ev ≡ o → Sent u o w → Holds w (take-event N s p ev)
     unfolding put-last raised
     takes-out None w q y = record {

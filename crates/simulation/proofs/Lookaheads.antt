@@ -8,6 +8,7 @@ use Rattle.simulation.specs.Prepare.{Limits}
 use Rattle.simulation.proofs.Places.{at-there}
 use Rattle.simulation.proofs.OfNet.{Reaching}
 
+-- The lookahead of a process is part of each reach.
 pub reaching : {C P : Type 0} (g : Program C P) (net : Net C P) → ((s : P) → 1 ≤ g .lookahead s) → Limits net → Reaching g net
 reaching g net ahead limits k p e l =
     let m = limits .as-many in

@@ -23,6 +23,7 @@ use Rattle.simulation.proofs.Course.{Upto}
 abbrev pub Lower : {C : Type 0} → Choice C → Choice C → Type 0
 Lower a b = Upto (a .event .time) (a .process) (a .link) (b .event .time) (b .process) (b .link)
 
+-- What comes before is lower.
 before-true : {C : Type 0} (a b : Choice C) → before a b ≡ true → Lower a b
 before-true a b e = ⊎-elim
     (λ x. let l = ltb-true (a .event .time) (b .event .time) x in omega arith)
@@ -32,6 +33,7 @@ before-true a b e = ⊎-elim
     (or-true _ _ (y .1)))
     (or-true _ _ e)
 
+-- What does not come before is not lower.
 before-false : {C : Type 0} (a b : Choice C) → before a b ≡ false → Lower b a
 before-false a b e =
     let x = or-false _ _ e in
@@ -43,9 +45,11 @@ before-false a b e =
     (and-false _ _ (z .1)))
     (and-false _ _ (x .1))
 
+-- Lower than lower is lower.
 lower-trans : {C : Type 0} (a b c : Choice C) → Lower a b → Lower b c → Lower a c
 lower-trans a b c x y = omega arith
 
+-- A choice is no later than itself.
 lower-refl : {C : Type 0} (a : Choice C) → Lower a a
 lower-refl a = omega arith
 
@@ -55,6 +59,7 @@ record Won {C : Type 0} (x y : Option (Choice C)) (c : Choice C) : Type 0 where
   left : (b : Choice C) → x ≡ Some b → Lower c b
   right : (b : Choice C) → y ≡ Some b → Lower c b
 
+-- The lower of two is.
 lower-won : {C : Type 0} (x y : Option (Choice C)) (c : Choice C) → lower x y ≡ Some c → Won x y c
 lower-won None None c e = none-is-some e
 lower-won None (Some b) c e = record { is = inr e; left = λ d f. none-is-some f; right = λ d f. let q : c ≡ d = cc in rw q (lower-refl d) }
@@ -71,6 +76,7 @@ lower-won (Some a) (Some b) c e = go (before b a) refl e
         let r : a ≡ c = cc in
         record { is = inl f; left = λ d h. let s : a ≡ d = cc in rw (← r, ← s) (lower-refl a); right = λ d h. let s : b ≡ d = cc in rw (← r, ← s) l }
 
+-- If there is no lower one, there is neither.
 lower-none : {C : Type 0} (x y : Option (Choice C)) → lower x y ≡ None → (x ≡ None) × (y ≡ None)
 lower-none None y e = (refl, e)
 lower-none (Some a) None e = none-is-some (sym e)
@@ -93,9 +99,11 @@ module _ {C P : Type 0} (net : Net C P) (s : Sim C P) where
     pub pending : Pending c
     pub least : (b : Choice C) → Pending b → Lower c b
 
+  -- The choice of the event e of the link k at p, if it comes before the horizon and p is not stopped.
   abbrev test : ℕ → ℕ → Event C → Option (Choice C)
   test k p e = only-if (ltb (e .time) (net .plan .horizon) && is-none (s .stopped p)) (record { process = p; link = k; event = e })
 
+  -- A candidate is pending.
   candidate-pending : (k : ℕ) (c : Choice C) → candidate net s k ≡ Some c → Pending c
   candidate-pending k c e = go (target (net .plan) k) refl (oldest (s .pending k)) refl e
     where
@@ -103,13 +111,15 @@ module _ {C P : Type 0} (net : Net C P) (s : Sim C P) where
       none-there None q = refl
       none-there (Some a) q = true-is-false (sym q)
 
-      go : (o : Option ℕ) → target (net .plan) k ≡ o → (f : Option (Event C)) → oldest (s .pending k) ≡ f → then o (λ p. then f (test k p)) ≡ Some c → Pending c
+      go : (o : Option ℕ) → target (net .plan) k ≡ o → (f : Option (Event C)) → oldest (s .pending k) ≡ f → then o (λ p. then f (test k p)) ≡ Some c
+          → Pending c
       go None q f r w = none-is-some w
       go (Some p) q None r w = none-is-some w
       go (Some p) q (Some a) r w =
           let x = only-if-some (ltb (a .time) (net .plan .horizon)) (is-none (s .stopped p)) (record { process = p; link = k; event = a }) c w in
           rw (← x .2) (record { leads = q; first = r; soon = ltb-true (a .time) (net .plan .horizon) (x .0); goes = none-there (s .stopped p) (x .1) })
 
+  -- What is pending is a candidate.
   pending-candidate : (c : Choice C) → Pending c → candidate net s (c .link) ≡ Some c
   pending-candidate c p =
       ap (λ (o : Option ℕ). then o (λ q. then (oldest (s .pending (c .link))) (test (c .link) q))) (p .leads)
@@ -124,12 +134,14 @@ module _ {C P : Type 0} (net : Net C P) (s : Sim C P) where
     is : candidate net s k ≡ Some c
     least : (j : ℕ) (b : Choice C) → j < m → candidate net s j ≡ Some b → Lower c b
 
+  -- Where nothing is lowest there is no candidate.
   none-below : (m : ℕ) → lowest-below net m s ≡ None → (k : ℕ) → k < m → candidate net s k ≡ None
   none-below zero e k l = absurd (omega arith)
   none-below (suc m) e k l =
       let w = lower-none (lowest-below net m s) (candidate net s m) e in
       by-cases (ℕ-discrete k m) (λ q. rw q (w .1)) (λ q. none-below m (w .0) k (omega arith))
 
+  -- The lowest is the best.
   best : (m : ℕ) (c : Choice C) → lowest-below net m s ≡ Some c → Best m c
   best zero c e = none-is-some e
   best (suc m) c e = go (lower-won (lowest-below net m s) (candidate net s m) c e) (lowest-below net m s) refl (λ b q. best m b q)
@@ -163,4 +175,6 @@ module _ {C P : Type 0} (net : Net C P) (s : Sim C P) where
 
   -- And if it chooses nothing, nothing is pending.
   pub none-pending : lowest net s ≡ None → (c : Choice C) → ¬ (Pending c)
-  none-pending e c p = none-is-some (sym (none-below (length (net .plan .links)) e (c .link) (target-there (net .plan) (c .link) (c .process) (p .leads))) ∙ pending-candidate c p)
+  none-pending e c p =
+      let l = target-there (net .plan) (c .link) (c .process) (p .leads) in
+      none-is-some (sym (none-below (length (net .plan .links)) e (c .link) l) ∙ pending-candidate c p)

@@ -37,9 +37,11 @@ module _ {C S : Type 0} (sys : System C S) where
       let y = b .least (d .link) (d .event) (a .is-link) (a .mine) n (a .waits) in absurd (omega arith))
 
   module _ (ok : Proper sys) (h : ℕ → List (Entry C)) (merged : Merged h) where
+    -- All that was handled was fair.
     all-fair : (p : ℕ) → All-fair sys p (h p)
     all-fair p e hs l = merged p hs e l .fair
 
+    -- So the arrivals on each link rise.
     all-rising : (k : ℕ) → k < sys .links → Rising (sent sys k (h (sys .source k)))
     all-rising k i = sent-rising sys ok k i (h (sys .source k)) (all-fair (sys .source k))
 
@@ -58,6 +60,7 @@ module _ {C S : Type 0} (sys : System C S) where
         → next sys k (s .h (sys .source k)) (s .h (sys .target k)) ≡ Some a → τ ≤ a .time
     pub stuck : (p : ℕ) (e : Entry C) → s .stopped p ≡ Some e → Stuck sys (s .h) p e × (e .event .time ≤ τ)
 
+  -- At the start no time has passed.
   begin-sound : Sound (begin sys) 0
   begin-sound = record {
     merges = λ p hs e l. absurd (⊑-nil l);
@@ -66,6 +69,7 @@ module _ {C S : Type 0} (sys : System C S) where
   }
 
   module _ (s : Course C) (k : ℕ) (a : Event C) (chosen : Chosen sys s k a) where
+    -- Nothing that waits at a process that goes on comes before what is chosen.
     chosen-least : (j : ℕ) (b : Event C) → j < sys .links → sys .target j < sys .processes → s .stopped (sys .target j) ≡ None
         → next sys j (s .h (sys .source j)) (s .h (sys .target j)) ≡ Some b → Upto (a .time) (sys .target k) k (b .time) (sys .target j) j
     chosen-least j b i q g w = by-cases (decLt (b .time) (sys .horizon))
@@ -84,9 +88,11 @@ module _ {C S : Type 0} (sys : System C S) where
     }
 
     module _ (ok : Proper sys) (fair : Fair sys (sys .target k) (s .h (sys .target k)) (entry k a)) where
+      -- The histories once the event is taken.
       abbrev h′ : ℕ → List (Entry C)
       h′ = grown sys (s .h) k a
 
+      -- They only grow.
       grows : (q : ℕ) → s .h q ⊑ h′ q
       grows q = ⊎-elim (λ c. rw (c .1, c .0) (more same)) (λ c. rw (c .1) same) (update-cases (s .h) (sys .target k) q (entry k a ∷ s .h (sys .target k)))
 
@@ -109,6 +115,7 @@ module _ {C S : Type 0} (sys : System C S) where
           (nth-cases (arrives sys j (c .x)) (sent sys j (s .h (sys .source j))) n (rw (c .is) at w)))
           (sent-cases sys (s .h) (sys .target k) (entry k a) j)
 
+      -- What was lowest by then stays lowest.
       lowest-kept : (q : ℕ) (hs : List (Entry C)) (d : Entry C) → d .event .time ≤ a .time → Lowest sys (s .h) q hs d → Lowest sys h′ q hs d
       lowest-kept q hs d t l = record {
         is-link = l .is-link;
@@ -120,6 +127,7 @@ module _ {C S : Type 0} (sys : System C S) where
       }
 
     module _ (τ : ℕ) (sound : Sound s τ) where
+      -- Times never fall.
       not-back : τ ≤ a .time
       not-back = sound .ahead k a (chosen .waits .is-link) (chosen .waits .is-process) (chosen .waits .goes) (chosen .waits .is)
 
@@ -139,6 +147,7 @@ module _ {C S : Type 0} (sys : System C S) where
       }
 
       module _ (ok : Proper sys) (fair : Fair sys (sys .target k) (s .h (sys .target k)) (entry k a)) where
+        -- What was merged stays so.
         merges-kept : (q : ℕ) (hs : List (Entry C)) (d : Entry C) → d ∷ hs ⊑ s .h q → Merges (h′ ok fair) q hs d × (d .event .time ≤ a .time)
         merges-kept q hs d l =
             let t = sound .merges q hs d l in
@@ -146,9 +155,11 @@ module _ {C S : Type 0} (sys : System C S) where
             let m : d .event .time ≤ a .time = omega arith in
             (record { lowest = lowest-kept ok fair q hs d m (t .0 .lowest); fair = t .0 .fair }, m)
 
+        -- What is taken now is merged.
         merges-new : Merges (h′ ok fair) (sys .target k) (s .h (sys .target k)) (entry k a)
         merges-new = record { lowest = lowest-kept ok fair (sys .target k) (s .h (sys .target k)) (entry k a) (omega arith) chosen-lowest; fair = fair }
 
+        -- So all is.
         all-merge : (q : ℕ) (hs : List (Entry C)) (d : Entry C) → d ∷ hs ⊑ h′ ok fair q → Merges (h′ ok fair) q hs d × (d .event .time ≤ a .time)
         all-merge q hs d l = ⊎-elim
             (λ c. ⊎-elim
@@ -158,6 +169,7 @@ module _ {C S : Type 0} (sys : System C S) where
             (λ c. merges-kept q hs d (rw (c .1) at l))
             (update-cases (s .h) (sys .target k) q (entry k a ∷ s .h (sys .target k)))
 
+        -- What waited before, and waits still, is not before the event taken.
         old-ahead : (j : ℕ) (b : Event C) → j < sys .links → sys .target j < sys .processes → s .stopped (sys .target j) ≡ None
             → nth (sent sys j (s .h (sys .source j))) (taken j (h′ ok fair (sys .target j))) ≡ Some b → a .time ≤ b .time
         old-ahead j b i q g w = ⊎-elim
@@ -169,6 +181,7 @@ module _ {C S : Type 0} (sys : System C S) where
             (λ c. chosen-least j b i q g (rw (c .1) at w) .sooner)
             (update-cases (s .h) (sys .target k) (sys .target j) (entry k a ∷ s .h (sys .target k)))
 
+        -- What is stuck stays stuck.
         stuck-kept : (q : ℕ) (d : Entry C) → d .event .time ≤ a .time → s .stopped q ≡ Some d → Stuck sys (s .h) q d → Stuck sys (h′ ok fair) q d
         stuck-kept q d t g u = ⊎-elim
             (λ c. none-is-some (sym (rw (c .0) (chosen .waits .goes)) ∙ g))
@@ -184,6 +197,7 @@ module _ {C S : Type 0} (sys : System C S) where
               let m : d .event .time ≤ a .time = omega arith in (stuck-kept q d m g (t .0), m);
         }
 
+  -- So it is all the way.
   comes-sound : Proper sys → {s : Course C} → Comes sys s → (τ : ℕ) × Sound s τ
   comes-sound ok starts = (0, begin-sound)
   comes-sound ok (goes-on {s = s} c (takes {k = k} {a = a} x f)) = let i = comes-sound ok c in (a .time, takes-sound s k a x (i .0) (i .1) ok f)
@@ -205,7 +219,13 @@ module _ {C S : Type 0} (sys : System C S) where
         go : (o : Option (Entry C)) → s .stopped p ≡ o → s .stopped p ≡ Some e
         go None q =
             let l = u .lowest in
-            absurd (ends .over (e .link) (e .event) (record { is-link = l .is-link; is-process = rw (l .mine) (l .is-process); goes = rw (l .mine) q; is = rw (l .mine) (l .waits); soon = l .soon }))
+            absurd (ends .over (e .link) (e .event) (record {
+              is-link = l .is-link;
+              is-process = rw (l .mine) (l .is-process);
+              goes = rw (l .mine) q;
+              is = rw (l .mine) (l .waits);
+              soon = l .soon;
+            }))
         go (Some d) q = rw (lowest-same (s .h) p (s .h p) e d (u .lowest) (stopped-stuck p d q .lowest)) q
 
     -- At the end all is settled.

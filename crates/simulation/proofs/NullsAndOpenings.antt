@@ -28,7 +28,8 @@ high-enough true false x y l = omega arith
 high-enough false b x y l = refl
 
 -- A floor that is raised is not raised again.
-raised-once : (t : ℕ) (a b : Bool) (f d f′ d′ : ℕ) → f′ ≡ t + d → d′ ≡ d → f < t + d → a ≡ true → cond b (max f′ (t + d′)) f′ ≡ cond (a || b) (max f (t + d)) f
+raised-once : (t : ℕ) (a b : Bool) (f d f′ d′ : ℕ) → f′ ≡ t + d → d′ ≡ d → f < t + d → a ≡ true
+    → cond b (max f′ (t + d′)) f′ ≡ cond (a || b) (max f (t + d)) f
 raised-once t a true f d f′ d′ e i l q = rw q (omega arith)
 raised-once t a false f d f′ d′ e i l q = rw q (omega arith)
 
@@ -61,9 +62,12 @@ module _ {C : Type 0} where
         waiting = λ j l. i .waiting j (omega arith) ∙ by-cases (ℕ-discrete j k) (λ e. rw e (nd .waiting)) (λ d. nd .apart .waiting j l d);
         delay = λ j l. i .delay j (omega arith) ∙ nd .steady .settled j l .delay;
         floor = λ j l. i .floor j (omega arith) ∙ by-cases (ℕ-discrete j k)
-            (λ e. subst (λ (x : ℕ). cond (elem x ks) (max (u .floor x) (t + u .delay x)) (u .floor x) ≡ cond (elem x (k ∷ ks)) (max (m .floor x) (t + m .delay x)) (m .floor x)) (sym e)
-            (raised-once t (eqb k k) (elem k ks) (m .floor k) (m .delay k) (u .floor k) (u .delay k) (nd .floor) (nd .steady .settled k (nd .timely .there) .delay) low (eq-eqb k k refl)))
-            (λ d. rw (nd .apart .floor j l d, nd .steady .settled j l .delay) (ap (λ b. cond (b || elem j ks) (max (m .floor j) (t + m .delay j)) (m .floor j)) (sym (ne-eqb j k d))));
+            (λ e. subst (λ (x : ℕ).
+            cond (elem x ks) (max (u .floor x) (t + u .delay x)) (u .floor x) ≡ cond (elem x (k ∷ ks)) (max (m .floor x) (t + m .delay x)) (m .floor x)) (sym e)
+            (raised-once t (eqb k k) (elem k ks) (m .floor k) (m .delay k) (u .floor k) (u .delay k)
+            (nd .floor) (nd .steady .settled k (nd .timely .there) .delay) low (eq-eqb k k refl)))
+            (λ d. rw (nd .apart .floor j l d, nd .steady .settled j l .delay)
+            (ap (λ b. cond (b || elem j ks) (max (m .floor j) (t + m .delay j)) (m .floor j)) (sym (ne-eqb j k d))));
       }
 
 module _ {C P : Type 0} (net : Net C P) where
@@ -81,24 +85,30 @@ module _ {C P : Type 0} (net : Net C P) where
 
   -- The first of them, o, is put.
   module _ (m u : Pile C) (o : Opening C) (os : List (Opening C)) (d : Delays m) (pd : PutDone m (o .link) (o .time) (o .cargo) u) where
+    -- The event as it arrives.
     arrival : Event C
     arrival = arriving (net .plan) (o .link) (o .time) (o .cargo)
 
+    -- It is the first opening event of its link.
     opening-here : opening-on net (o .link) (o ∷ os) ≡ arrival ∷ opening-on net (o .link) os
     unfolding arrival
     opening-here = if-same (o .link) (o .link) (arriving (net .plan) (o .link) (o .time) (o .cargo) ∷ opening-on net (o .link) os) (opening-on net (o .link) os) refl
 
+    -- Other links have the opening events that are left.
     opening-there : (j : ℕ) → o .link ≢ j → opening-on net j (o ∷ os) ≡ opening-on net j os
     opening-there j n = if-other (o .link) j (arriving (net .plan) j (o .time) (o .cargo) ∷ opening-on net j os) (opening-on net j os) n
 
+    -- It waits last.
     put-waiting : u .waiting (o .link) ≡ m .waiting (o .link) ++ arrival ∷ []
     unfolding arrival
     put-waiting = pd .waiting ∙ ap (λ (n : ℕ). m .waiting (o .link) ++ record { time = o .time + n; cargo = o .cargo } ∷ []) (d (o .link) (pd .timely .there))
 
+    -- Its arrival is the floor.
     put-floor : u .floor (o .link) ≡ arrival .time
     unfolding arrival
     put-floor = pd .floor ∙ ap (λ (n : ℕ). o .time + n) (d (o .link) (pd .timely .there))
 
+    -- What waits, and is still to be put, stays the same on each link.
     waiting-on : (j : ℕ) → j < m .count → u .waiting j ++ opening-on net j os ≡ m .waiting j ++ opening-on net j (o ∷ os)
     waiting-on j l = by-cases (ℕ-discrete (o .link) j)
         (λ e. subst (λ (x : ℕ). u .waiting x ++ opening-on net x os ≡ m .waiting x ++ opening-on net x (o ∷ os)) e
@@ -106,6 +116,7 @@ module _ {C P : Type 0} (net : Net C P) where
         ∙ ap (λ q. m .waiting (o .link) ++ q) (sym opening-here)))
         (λ n. ap (λ q. q ++ opening-on net j os) (pd .apart .waiting j l (λ e. n (sym e))) ∙ ap (λ q. m .waiting j ++ q) (sym (opening-there j n)))
 
+    -- So does the last arrival.
     floor-on : (j : ℕ) → j < m .count → last-arrival (u .floor j) (opening-on net j os) ≡ last-arrival (m .floor j) (opening-on net j (o ∷ os))
     floor-on j l = by-cases (ℕ-discrete (o .link) j)
         (λ e. subst (λ (x : ℕ). last-arrival (u .floor x) (opening-on net x os) ≡ last-arrival (m .floor x) (opening-on net x (o ∷ os))) e
@@ -116,6 +127,7 @@ module _ {C P : Type 0} (net : Net C P) where
     abbrev Goes-on : ℕ → List (Opening C) → ℕ → Type 0
     Goes-on f xs j = (acc : List (Event C)) → Rising acc → newest 0 acc ≤ f → Rising (reverseAux (opening-on net j xs) acc)
 
+    -- Its arrival is not below the floor, so the arrivals of its link rise.
     rising-here : Goes-on (u .floor (o .link)) os (o .link) → Goes-on (m .floor (o .link)) (o ∷ os) (o .link)
     unfolding Rising newest
     rising-here i acc r n =
@@ -124,6 +136,7 @@ module _ {C P : Type 0} (net : Net C P) where
         let e = pd .floor in
         subst (λ (q : List (Event C)). Rising (reverseAux q acc)) (sym opening-here) (i (arrival ∷ acc) (omega arith, r) (omega arith))
 
+    -- And those of the other links.
     rising-on : (j : ℕ) → j < m .count → Goes-on (u .floor j) os j → Goes-on (m .floor j) (o ∷ os) j
     rising-on j l i = by-cases (ℕ-discrete (o .link) j)
         (λ e. subst (λ (x : ℕ). Goes-on (m .floor x) (o ∷ os) x) e (rising-here (subst (λ (x : ℕ). Goes-on (u .floor x) os x) (sym e) i)))

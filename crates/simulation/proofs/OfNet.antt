@@ -38,6 +38,7 @@ module _ {C P : Type 0} (g : Program C P) (net : Net C P) where
   rule-of p None e = (None, None)
   rule-of p (Some s) e = (Some (handle g (net .plan) p s (e .link) (e .event) .0), handle g (net .plan) p s (e .link) (e .event) .1)
 
+  -- The net as a system.
   abbrev pub system : System C (Option P)
   system = record {
     horizon = net .plan .horizon;
@@ -56,8 +57,10 @@ module _ {C P : Type 0} (g : Program C P) (net : Net C P) where
   abbrev pub to-record : ℕ → Entry C → Record
   to-record p e = record-of g p (e .link) (e .event)
 
+  -- What goes out by a port goes on a link of p.
   out-own : (p : ℕ) (o : Option ℕ) (y : Sending C) (x : Outgoing C) → at (out-links (net .plan) p) (y .port) ≡ o
-      → then o (λ k. Some (record { link = k; time = y .time; cargo = y .cargo })) ≡ Some x → (x .link < length (net .plan .links)) × (source (net .plan) (x .link) ≡ Some p)
+      → then o (λ k. Some (record { link = k; time = y .time; cargo = y .cargo })) ≡ Some x
+      → (x .link < length (net .plan .links)) × (source (net .plan) (x .link) ≡ Some p)
   out-own p None y x q e = none-is-some e
   out-own p (Some k) y x q e =
       let r = numbers-at (length (net .plan .links)) (λ j. is p (source (net .plan) j)) (y .port) k q in
@@ -70,11 +73,13 @@ module _ {C P : Type 0} (g : Program C P) (net : Net C P) where
   outgoing-own p None x e = none-is-some e
   outgoing-own p (Some y) x e = out-own p (at (out-links (net .plan) p) (y .port)) y x refl e
 
+  -- So does what the rule gives.
   rule-own : (p : ℕ) (s : Option P) (e : Entry C) (x : Outgoing C) → rule-of p s e .1 ≡ Some x
       → (x .link < length (net .plan .links)) × (or-outside (source (net .plan) (x .link)) ≡ p)
   rule-own p None e x w = none-is-some w
   rule-own p (Some s) e x w = let r = outgoing-own p _ x w in (r .0, ap or-outside (r .1))
 
+  -- The reach of a link from a process.
   reach-there : Reaching g net → (k : ℕ) (o : Option ℕ) → source (net .plan) k ≡ o → or-outside o < net .plan .processes
       → 1 ≤ lookahead-of g (at (net .processes) (or-outside o)) + delay (net .plan) k
   reach-there far k None e l = absurd (omega arith)
@@ -98,6 +103,7 @@ module _ {C P : Type 0} (g : Program C P) (net : Net C P) where
     pub is : state system p hs ≡ Some x
     pub look : g .lookahead x ≡ system .lookahead p
 
+  -- So it is after every history.
   pub has-state : Constant g → Limits net → (p : ℕ) → p < net .plan .processes → (hs : List (Entry C)) → Has-state p hs
   unfolding state
   has-state same limits p l [] =

@@ -47,6 +47,7 @@ module _ {A : Type 0} where
   set-other (x ∷ xs) (suc p) zero a n = refl
   set-other (x ∷ xs) (suc p) (suc q) a n = set-other xs p q a (λ e. n (ap suc e))
 
+-- What stands in a list of one number, or of none.
 at-one : (b : Bool) (n i k : ℕ) → at (cond b (n ∷ []) []) i ≡ Some k → (b ≡ true) × (n ≡ k)
 at-one true n zero k e = (refl, cc)
 at-one true n (suc i) k e = none-is-some e
@@ -65,26 +66,32 @@ abbrev pub elem : ℕ → List ℕ → Bool
 elem j [] = false
 elem j (k ∷ ks) = eqb j k || elem j ks
 
+-- Either of three.
 or-assoc : (a b c : Bool) → (a || (b || c)) ≡ ((a || b) || c)
 or-assoc true b c = refl
 or-assoc false b c = refl
 
+-- Either of a test and false.
 or-no : (b : Bool) → (b || false) ≡ b
 or-no true = refl
 or-no false = refl
 
+-- A number is in two lists joined if it is in one of them.
 elem-append : (j : ℕ) (xs ys : List ℕ) → elem j (xs ++ ys) ≡ (elem j xs || elem j ys)
 elem-append j [] ys = refl
 elem-append j (x ∷ xs) ys = ap (λ b. eqb j x || b) (elem-append j xs ys) ∙ or-assoc (eqb j x) (elem j xs) (elem j ys)
 
+-- Another number is not in a list of one.
 elem-one : (b : Bool) (j n : ℕ) → j ≢ n → elem j (cond b (n ∷ []) []) ≡ false
 elem-one true j n d = ap (λ t. t || false) (ne-eqb j n d)
 elem-one false j n d = refl
 
+-- The number itself is, if it is there.
 elem-here : (b : Bool) (n : ℕ) → elem n (cond b (n ∷ []) []) ≡ b
 elem-here true n = ap (λ t. t || false) (eq-eqb n n refl)
 elem-here false n = refl
 
+-- A number past the bound is not in the list.
 elem-past : (n : ℕ) (test : ℕ → Bool) (j : ℕ) → n ≤ j → elem j (numbers-below n test) ≡ false
 elem-past zero test j l = refl
 elem-past (suc n) test j l =

@@ -28,9 +28,11 @@ module _ (plan : Shape) where
   leads k l = let x = at-there (plan .links) k l in (x .0 .to, ap (λ (o : Option Link). then o (λ (n : Link). Some (n .to))) (x .1))
 
   module _ (ok : within plan ≡ true) where
+    -- All links join processes.
     all-joined : joined plan ≡ true
     all-joined = and-true _ (joined plan) (and-true _ (few-ports plan) ok .0) .1
 
+    -- So each does.
     link-joins : (k : ℕ) (l : Link) → at (plan .links) k ≡ Some l → joins (plan .processes) (Some l) ≡ true
     link-joins k l e =
         ap (joins (plan .processes)) (sym e)
@@ -51,10 +53,12 @@ module _ (plan : Shape) where
     pub source-cases : (k : ℕ) → k < length (plan .links) → (source plan k ≡ None) ⊎ ((p : ℕ) × (source plan k ≡ Some p) × (p < plan .processes))
     source-cases k i = let x = at-there (plan .links) k i in go (x .0) (x .1) (x .0 .from) refl
       where
-        go : (l : Link) → at (plan .links) k ≡ Some l → (o : Option ℕ) → l .from ≡ o → (source plan k ≡ None) ⊎ ((p : ℕ) × (source plan k ≡ Some p) × (p < plan .processes))
+        go : (l : Link) → at (plan .links) k ≡ Some l → (o : Option ℕ) → l .from ≡ o
+            → (source plan k ≡ None) ⊎ ((p : ℕ) × (source plan k ≡ Some p) × (p < plan .processes))
         go l e None f = inl (ap (λ (z : Option Link). then z (λ (n : Link). n .from)) e ∙ f)
         go l e (Some p) f =
-            let t = and-true (from-below (plan .processes) (l .from)) _ (and-true (from-below (plan .processes) (l .from) && ltb (l .to) (plan .processes)) _ (link-joins k l e) .0) .0 in
+            let u = and-true (from-below (plan .processes) (l .from) && ltb (l .to) (plan .processes)) _ (link-joins k l e) .0 in
+            let t = and-true (from-below (plan .processes) (l .from)) _ u .0 in
             inr (
               p,
               ap (λ (z : Option Link). then z (λ (n : Link). n .from)) e ∙ f,

@@ -26,9 +26,11 @@ use Rattle.simulation.proofs.LinksOfRun.{Holds}
 use Rattle.simulation.proofs.StepsOfRun.{Shows}
 
 module _ {C P : Type 0} (g : Program C P) (net : Net C P) (v : View C P) (pd : Prepared net v) where
+  -- The net as a system.
   abbrev N : System C (Option P)
   N = system g net
 
+  -- What the opening events made of the links.
   abbrev op : Opened net (net .opening) (pd .fresh) (pd .opened)
   op = opened net (λ j l. pd .fits j l .delay) (pd .opens)
 
@@ -48,6 +50,7 @@ module _ {C P : Type 0} (g : Program C P) (net : Net C P) (v : View C P) (pd : P
       ∙ sym (if-pos (decLt (N .source k) (net .plan .processes)) (omega arith) (opened-floor N k) (nulled-floor N k)))
       (source-cases (net .plan) (pd .limits .within) k l)
 
+  -- The links hold what a kernel says that has just been prepared.
   prepared-holds : Holds g net (v .links) (boot N)
   unfolding taken sent newest
   prepared-holds =
@@ -75,6 +78,7 @@ module _ {C P : Type 0} (g : Program C P) (net : Net C P) (v : View C P) (pd : P
   pub opening-rising : (k : ℕ) → k < length (net .plan .links) → Rising (reverse (opening-on net k (net .opening)))
   opening-rising k l = let c = pd .count in op .rising k (omega arith) [] (unfold Rising in tt) (unfold newest in omega arith)
 
+  -- And the run is where it is.
   pub prepared-shows : Shows g net v (record { kernel = boot N; marked = λ (q : ℕ). false; rounds = 0 })
   unfolding state
   prepared-shows = let r = pd .rounds in record {

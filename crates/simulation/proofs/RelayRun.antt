@@ -60,6 +60,7 @@ module _ {C : Type 0} where
     quotas = m .quotas;
   }
 
+  -- Such a take is one.
   take-done : (m : Pile C) (k : ℕ) (e : Event C) → k < m .count → m .waiting k ≡ e ∷ tail (m .waiting k) → TakeDone m k e (taking m k)
   take-done m k e l w = record {
     there = l;
@@ -71,6 +72,7 @@ module _ {C : Type 0} where
     rises = λ j i n. let e = update-other (m .free) k j (m .free k + 1) n in omega arith;
   }
 
+  -- Such a put is one.
   put-done : (m : Pile C) (k t : ℕ) (c : C) → Timely m k t → 1 ≤ m .free k → PutDone m k t c (putting m k t c)
   put-done m k t c y f = record {
     timely = y;
@@ -82,6 +84,7 @@ module _ {C : Type 0} where
     falls = λ j i n. let e = update-other (m .free) k j (m .free k - 1) n in (omega arith, omega arith);
   }
 
+  -- Such a null is one.
   null-done : (m : Pile C) (k t : ℕ) → Timely m k t → NullDone m k t (nulling m k t)
   null-done m k t y = record {
     timely = y;
@@ -104,11 +107,13 @@ stepped v p processes links log = record {
   rounds = cond (round-over v p) (plus (v .rounds) 1) (v .rounds);
 }
 
+-- The relay has one in-link.
 only-first : (j : ℕ) → target relay-plan j ≡ Some 0 → j ≡ 0
 only-first zero e = refl
 only-first (suc zero) e = let z : _≡_ {A = ℕ} 1 0 = cc in absurd (omega arith)
 only-first (suc (suc j)) e = none-is-some e
 
+-- And so has the sink.
 only-second : (j : ℕ) → target relay-plan j ≡ Some 1 → j ≡ 1
 only-second zero e = let z : _≡_ {A = ℕ} 0 1 = cc in absurd (omega arith)
 only-second (suc zero) e = refl
@@ -126,12 +131,15 @@ fresh = record {
   quotas = λ (k : ℕ). [];
 }
 
+-- And with the opening event.
 abbrev opened : Pile ℕ
 opened = putting fresh 0 10 7
 
+-- The run as it is prepared.
 abbrev v0 : View ℕ Kind
 v0 = record { plan = relay-plan; processes = relay 0 ∷ sink ∷ []; links = nulling opened 0 36; log = []; room = 4096; marked = λ (q : ℕ). false; rounds = 0 }
 
+-- It is prepared.
 prepared : Prepared relay-net v0
 prepared = record {
   limits = record { within = refl; as-many = refl };
@@ -154,12 +162,15 @@ prepared = record {
 abbrev without : Pile ℕ
 without = taking (v0 .links) 0
 
+-- And with what it sends.
 abbrev with-sent : Pile ℕ
 with-sent = putting without 1 15 7
 
+-- The run after that.
 abbrev v1 : View ℕ Kind
 v1 = stepped v0 0 (relay 1 ∷ sink ∷ []) (nulling with-sent 1 41) (relay-record ∷ [])
 
+-- That is a step.
 relay-takes : Step relays v0 0 (Ok (record { taken = Some (record { time = 10; cargo = 7 }); nulls = 1 })) v1
 relay-takes = Step.takes (record { there = refl; state = refl })
     (record { leads = refl; first = refl; soon = lit< tt; sure = λ j to n. absurd (n (only-first j to)) })
@@ -183,9 +194,11 @@ relay-takes = Step.takes (record { there = refl; state = refl })
 abbrev empty : Pile ℕ
 empty = taking (v1 .links) 1
 
+-- The run after that.
 abbrev v2 : View ℕ Kind
 v2 = stepped v1 1 (relay 1 ∷ sink ∷ []) empty (relay-record ∷ sink-record ∷ [])
 
+-- That is a step.
 sink-takes : Step relays v1 1 (Ok (record { taken = Some (record { time = 35; cargo = 7 }); nulls = 0 })) v2
 sink-takes = Step.takes (record { there = refl; state = refl })
     (record { leads = refl; first = refl; soon = lit< tt; sure = λ j to n. absurd (n (only-second j to)) })
@@ -202,12 +215,23 @@ sink-takes = Step.takes (record { there = refl; state = refl })
 
 -- From then on nothing waits, and the floors are as high as they get.
 abbrev resting : (ℕ → Bool) → ℕ → View ℕ Kind
-resting marked rounds = record { plan = relay-plan; processes = relay 1 ∷ sink ∷ []; links = empty; log = relay-record ∷ sink-record ∷ []; room = 4096; marked = marked; rounds = rounds }
+resting marked rounds = record {
+  plan = relay-plan;
+  processes = relay 1 ∷ sink ∷ [];
+  links = empty;
+  log = relay-record ∷ sink-record ∷ [];
+  room = 4096;
+  marked = marked;
+  rounds = rounds;
+}
 
+-- The run once p has stepped and nothing but its mark has changed.
 abbrev rested : View ℕ Kind → ℕ → View ℕ Kind
 rested v p = stepped v p (v .processes) (v .links) (v .log)
 
-relay-idles : (marked : ℕ → Bool) (rounds : ℕ) → Step relays (resting marked rounds) 0 (Ok (record { taken = None; nulls = 0 })) (rested (resting marked rounds) 0)
+-- A step of the relay is such.
+relay-idles : (marked : ℕ → Bool) (rounds : ℕ)
+    → Step relays (resting marked rounds) 0 (Ok (record { taken = None; nulls = 0 })) (rested (resting marked rounds) 0)
 relay-idles marked rounds = Step.idles (record { there = refl; state = refl })
     (λ i e s. none-is-some (rw (only-first i (s .leads)) at (s .first)))
     (record {
@@ -216,7 +240,9 @@ relay-idles marked rounds = Step.idles (record { there = refl; state = refl })
       log = refl;
     })
 
-sink-idles : (marked : ℕ → Bool) (rounds : ℕ) → Step relays (resting marked rounds) 1 (Ok (record { taken = None; nulls = 0 })) (rested (resting marked rounds) 1)
+-- And a step of the sink.
+sink-idles : (marked : ℕ → Bool) (rounds : ℕ)
+    → Step relays (resting marked rounds) 1 (Ok (record { taken = None; nulls = 0 })) (rested (resting marked rounds) 1)
 sink-idles marked rounds = Step.idles (record { there = refl; state = refl })
     (λ i e s. none-is-some (rw (only-second i (s .leads)) at (s .first)))
     (record {
@@ -229,6 +255,7 @@ sink-idles marked rounds = Step.idles (record { there = refl; state = refl })
 abbrev next : View ℕ Kind → View ℕ Kind
 next v = rested (rested v 0) 1
 
+-- All together.
 pub relay-runs : Relay-run
 relay-runs = record {
   v = next (next (next v2));

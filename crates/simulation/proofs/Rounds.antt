@@ -19,7 +19,8 @@ use Rattle.simulation.proofs.Histories.{⊑-length, ⊑-whole, nth-kept}
 use Rattle.simulation.proofs.System.{System, Entry, taken, answer, Fine, Quiet, Proper}
 use Rattle.simulation.proofs.SentEvents.{sent-⊑}
 use Rattle.simulation.proofs.MergeLaw.{Merged, Settled}
-use Rattle.simulation.proofs.Kernel.{Kernel, Counted, events, opened-floor, nulled-floor, first-floor, boot, waiting, link-clock, clock, Safe, take-event, promise, tell, Act, idle, takes, Everyone, refused, marks, rounds-up, Gets, boots, ticks}
+use Rattle.simulation.proofs.Kernel.{Kernel, Counted, events, opened-floor, nulled-floor, first-floor, boot, waiting, link-clock, clock, Safe, take-event, promise, tell}
+use Rattle.simulation.proofs.Kernel.{Act, idle, takes, Everyone, refused, marks, rounds-up, Gets, boots, ticks}
 use Rattle.simulation.proofs.Clocks.{due-some, due-none, due-mono, clock-least, clock-greatest, clock-horizon, idle-clock}
 use Rattle.simulation.proofs.FollowsMerged.{Follows, raised-cases, all-taken, gets-follows}
 
@@ -33,6 +34,7 @@ abbrev pub Positive : Option ℕ → Type 0
 Positive None = Unit {0}
 Positive (Some q) = 1 ≤ q
 
+-- A quotient that is rounded up reaches the number.
 rounded-up : (H r : ℕ) → 1 ≤ r → H ≤ (H + (r - 1)) / r * r
 rounded-up H r l = omega arith
 
@@ -59,11 +61,13 @@ module _ {C S : Type 0} (sys : System C S) where
       let d = due-mono (waiting sys s k) (s .floor k) (tell sys s p .floor k) (tell-floor s p k) in
       omega arith)
 
+  -- As p takes e, no history gets shorter.
   longer : (s : Kernel C) (p : ℕ) (e : Entry C) (q : ℕ) → length (s .h q) ≤ length (update (s .h) p (e ∷ s .h p) q)
   longer s p e q = ⊎-elim (λ c. rw (c .1, c .0) (omega arith)) (λ c. rw (c .1) (omega arith)) (update-cases (s .h) p q (e ∷ s .h p))
 
   -- A taken event counts.
-  take-more : (s : Kernel C) (p : ℕ) (e : Entry C) → p < sys .processes → events (sys .processes) (s .h) + 1 ≤ events (sys .processes) (update (s .h) p (e ∷ s .h p))
+  take-more : (s : Kernel C) (p : ℕ) (e : Entry C) → p < sys .processes
+      → events (sys .processes) (s .h) + 1 ≤ events (sys .processes) (update (s .h) p (e ∷ s .h p))
   take-more s p e l = total-drop (sys .processes) (λ q. length (s .h q)) (λ q. length (update (s .h) p (e ∷ s .h p) q)) 1 p (λ q i. longer s p e q) l
       (⊎-elim (λ c. rw (c .1) (omega arith)) (λ c. absurd (c .0 refl)) (update-cases (s .h) p p (e ∷ s .h p)))
 
@@ -81,28 +85,37 @@ module _ {C S : Type 0} (sys : System C S) where
   -- Levels that the floors climb, one with each round in which nothing is taken; from the Z-th on they are the horizon.
   pub record Levels (level : ℕ → ℕ) (Z : ℕ) : Type 0 where
     pub start : (k : ℕ) → k < sys .links → sys .source k < sys .processes → level 0 ≤ 0
-    pub next-level : (z k : ℕ) → k < sys .links → sys .source k < sys .processes → level (suc z) ≤ level z + (sys .lookahead (sys .source k) + sys .delay k)
+    pub next-level : (z k : ℕ) → k < sys .links → sys .source k < sys .processes
+        → level (suc z) ≤ level z + (sys .lookahead (sys .source k) + sys .delay k)
     pub capped : (z : ℕ) → level z ≤ sys .horizon
     pub full : (z : ℕ) → Z ≤ z → sys .horizon ≤ level z
 
   -- With the smallest reach, as many levels as it goes into the horizon, rounded up, will do; without links from processes, none.
-  pub levels : (o : Option ℕ) → ((k : ℕ) → k < sys .links → sys .source k < sys .processes → Bounds o (sys .lookahead (sys .source k) + sys .delay k)) → Positive o
+  pub levels : (o : Option ℕ)
+      → ((k : ℕ) → k < sys .links → sys .source k < sys .processes → Bounds o (sys .lookahead (sys .source k) + sys .delay k)) → Positive o
       → (level : ℕ → ℕ) × Levels level (crossings (sys .horizon) o)
-  levels None b p = (λ z. sys .horizon, record {
-    start = λ k l q. absurd (b k l q);
-    next-level = λ z k l q. omega arith;
-    capped = λ z. omega arith;
-    full = λ z l. omega arith;
-  })
-  levels (Some r) b p = (λ z. min (sys .horizon) (z * r), record {
-    start = λ k l q. omega arith;
-    next-level = λ z k l q. let i = b k l q in omega arith;
-    capped = λ z. omega arith;
-    full = λ z l. let m = mul-le-mul-right r l in let u = rounded-up (sys .horizon) r p in omega arith;
-  })
+  levels None b p = (
+    λ z. sys .horizon,
+    record {
+      start = λ k l q. absurd (b k l q);
+      next-level = λ z k l q. omega arith;
+      capped = λ z. omega arith;
+      full = λ z l. omega arith;
+    },
+  )
+  levels (Some r) b p = (
+    λ z. min (sys .horizon) (z * r),
+    record {
+      start = λ k l q. omega arith;
+      next-level = λ z k l q. let i = b k l q in omega arith;
+      capped = λ z. omega arith;
+      full = λ z l. let m = mul-le-mul-right r l in let u = rounded-up (sys .horizon) r p in omega arith;
+    },
+  )
 
   module _ (ok : Proper sys) (h : ℕ → List (Entry C)) (merged : Merged sys h) (quiet : (p : ℕ) → p < sys .processes → Quiet sys h p)
       (level : ℕ → ℕ) (Z : ℕ) (levels : Levels level Z) where
+    -- Histories that leave nothing waiting are settled.
     settled : Settled sys h
     settled p l = inl (quiet p l)
 
@@ -120,10 +133,12 @@ module _ {C S : Type 0} (sys : System C S) where
       -- The floors go past the last level only once all events are taken.
       late : (height ≤ Z) ⊎ (events (sys .processes) h ≤ events (sys .processes) (s .h))
 
+    -- All floors are at the level, those of links from outside too.
     all-floors : {s : Kernel C} {marked : ℕ → Bool} {rounds : ℕ} (v : Lively s marked rounds) → (k : ℕ) → k < sys .links → level (v .height) ≤ s .floor k
     all-floors v k l = by-cases (decLt (sys .source k) (sys .processes)) (v .floors k l)
         (λ n. let o = v .outside k l (omega arith) in let c = levels .capped (v .height) in omega arith)
 
+    -- At first no round is over.
     boot-lively : Lively (boot sys) (λ q. false) 0
     unfolding first-floor
     boot-lively = record {
@@ -173,7 +188,8 @@ module _ {C S : Type 0} (sys : System C S) where
             (omega arith, λ k j r. let g = f .1 k j r in let u = tell-floor s p k in omega arith)
 
     -- A step with an event makes the round one that is spent.
-    takes-lively : (s : Kernel C) (marked mark : ℕ → Bool) (rounds p : ℕ) (e : Entry C) → Lively s marked rounds → Safe sys s p e → Fine sys p (s .h p) e (s .floor)
+    takes-lively : (s : Kernel C) (marked mark : ℕ → Bool) (rounds p : ℕ) (e : Entry C) → Lively s marked rounds → Safe sys s p e
+        → Fine sys p (s .h p) e (s .floor)
         → Lively (tell sys (take-event sys s p e) p) mark rounds
     takes-lively s marked mark rounds p e v a f =
         let m = take-more s p e (a .is-process) in
@@ -192,15 +208,19 @@ module _ {C S : Type 0} (sys : System C S) where
         rises : (k : ℕ) → s .floor k ≤ tell sys (take-event sys s p e) p .floor k
         rises k = let t = take-floor s p e f k in let u = tell-floor (take-event sys s p e) p k in omega arith
 
-    act-lively : {s : Kernel C} {p : ℕ} {s′ : Kernel C} {marked : ℕ → Bool} {rounds : ℕ} → Lively s marked rounds → Act sys s p s′ → Lively s′ (update marked p true) rounds
+    -- Any step keeps the count.
+    act-lively : {s : Kernel C} {p : ℕ} {s′ : Kernel C} {marked : ℕ → Bool} {rounds : ℕ} → Lively s marked rounds → Act sys s p s′
+        → Lively s′ (update marked p true) rounds
     act-lively {s = s} {p = p} {marked = marked} {rounds = rounds} v (idle l n) = idle-lively s marked rounds p v l n
     act-lively {s = s} {p = p} {marked = marked} {rounds = rounds} v (takes e a f) = takes-lively s marked (update marked p true) rounds p e v a f
 
+    -- Whole histories have all events.
     all-events : (s : Kernel C) → ((p : ℕ) → p < sys .processes → s .h p ≡ h p) → events (sys .processes) h ≤ events (sys .processes) (s .h)
     all-events s f = total-mono (sys .processes) (λ p. length (h p)) (λ p. length (s .h p)) (λ p l. rw (f p l) (omega arith))
 
     -- A round that is over without an event raised all floors by a level; any other was spent.
-    round-lively : (s : Kernel C) (marked : ℕ → Bool) (rounds : ℕ) → Follows sys ok h merged s → Lively s marked rounds → Everyone sys marked → Lively s (λ q. false) (suc rounds)
+    round-lively : (s : Kernel C) (marked : ℕ → Bool) (rounds : ℕ) → Follows sys ok h merged s → Lively s marked rounds → Everyone sys marked
+        → Lively s (λ q. false) (suc rounds)
     round-lively s marked rounds f v every = by-cases (decLe (events (sys .processes) (s .h)) (v .spent)) calm busy
       where
         calm : events (sys .processes) (s .h) ≤ v .spent → Lively s (λ q. false) (suc rounds)
@@ -229,6 +249,7 @@ module _ {C S : Type 0} (sys : System C S) where
           late = v .late;
         }
 
+    -- So the count is kept all the way.
     gets-lively : {c : Counted C} → Gets sys c → Lively (c .kernel) (c .marked) (c .rounds)
     gets-lively boots = boot-lively
     gets-lively (ticks g refused) = gets-lively g
@@ -236,6 +257,7 @@ module _ {C S : Type 0} (sys : System C S) where
     gets-lively (ticks {c = c} g (rounds-up {p = p} {s = s} a n)) =
         round-lively s (update (c .marked) p true) (c .rounds) (gets-follows sys ok h merged settled (ticks g (rounds-up a n))) (act-lively (gets-lively g) a) n
 
+    -- Where a history is whole, nothing is left waiting.
     quiet-there : (s : Kernel C) → Follows sys ok h merged s → (p : ℕ) → p < sys .processes → s .h p ≡ h p → Quiet sys (s .h) p
     quiet-there s f p l e j b i t w = quiet p l j b i t (nth-kept (sent-⊑ sys j (f .begins (sys .source j))) (taken j (h p)) (rw e at w))
 

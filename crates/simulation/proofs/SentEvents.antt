@@ -26,6 +26,7 @@ pub taken-other : {C : Type 0} (k : ℕ) (e : Entry C) (hs : List (Entry C)) →
 unfolding taken
 taken-other k e hs h = if-other (e .link) k (suc (taken k hs)) (taken k hs) h
 
+-- The newest event arrives last.
 rising-newest : {C : Type 0} (ms : List (Event C)) (x : ℕ) (a : Event C) → Rising ms → nth ms x ≡ Some a → a .time ≤ newest 0 ms
 unfolding Rising newest
 rising-newest [] x a r h = let l = nth-below [] x h in omega arith
@@ -35,7 +36,8 @@ rising-newest (m ∷ ms) x a r h = ⊎-elim
     (nth-cases m ms x h)
 
 -- Of two events the later one arrives no sooner.
-pub rising-at : {C : Type 0} (ms : List (Event C)) (x y : ℕ) (a b : Event C) → Rising ms → x ≤ y → nth ms x ≡ Some a → nth ms y ≡ Some b → a .time ≤ b .time
+pub rising-at : {C : Type 0} (ms : List (Event C)) (x y : ℕ) (a b : Event C) → Rising ms → x ≤ y → nth ms x ≡ Some a → nth ms y ≡ Some b
+    → a .time ≤ b .time
 unfolding Rising newest
 rising-at [] x y a b r l h k = let z = nth-below [] x h in omega arith
 rising-at (m ∷ ms) x y a b r l h k = ⊎-elim
@@ -43,6 +45,7 @@ rising-at (m ∷ ms) x y a b r l h k = ⊎-elim
     (λ c. let g = nth-below ms y c in ⊎-elim (λ d. let z = d .0 in omega arith) (λ d. rising-at ms x y a b (r .1) l d c) (nth-cases m ms x h))
     (nth-cases m ms y k)
 
+-- The newest arrival, with 0 or a delay where there is none.
 newest-least : {C : Type 0} (d : ℕ) (ms : List (Event C)) → newest 0 ms ≤ newest d ms
 unfolding newest
 newest-least d [] = omega arith
@@ -75,6 +78,7 @@ module _ {C S : Type 0} (sys : System C S) where
   abbrev pub All-fair : ℕ → List (Entry C) → Type 0
   All-fair p gs = (e : Entry C) (hs : List (Entry C)) → e ∷ hs ⊑ gs → Fair sys p hs e
 
+  -- A sending that does not overtake keeps the arrivals rising.
   rising-more : (t k : ℕ) (hs : List (Entry C)) (x : Outgoing C) → x .link ≡ k → Keeps t (sys .delay) (λ j. last sys j hs) x
       → Rising (sent sys k hs) → Rising (arrives sys k x ∷ sent sys k hs)
   unfolding Rising
@@ -93,6 +97,7 @@ module _ {C S : Type 0} (sys : System C S) where
       (λ c. rw (c .3) (rising-more (e .event .time + sys .lookahead (sys .source k)) k hs (c .0) (c .2) (f e hs same (c .0) (c .1)) r))
       (post-cases k (answer sys (sys .source k) hs e) (sent sys k hs))
 
+  -- The last arrival does not fall by it.
   last-more : (k : ℕ) (hs : List (Entry C)) (e : Entry C) → Fair sys (sys .source k) hs e → last sys k hs ≤ last sys k (e ∷ hs)
   unfolding sent newest
   last-more k hs e f = ⊎-elim
@@ -119,11 +124,13 @@ module _ {C S : Type 0} (sys : System C S) where
     pub on : x .link ≡ k
     pub is : arrives sys k x ≡ b
 
+  -- An origin stays one as the history grows.
   origin-more : (k : ℕ) (hs us : List (Entry C)) (e : Entry C) (b : Event C) → Origin k hs us b → Origin k hs (e ∷ us) b
   origin-more k hs us e b o = record { e = o .e; us = o .us; beyond = o .beyond; within = more (o .within); x = o .x; by = o .by; on = o .on; is = o .is }
 
   -- What stands on a link beyond what hs sent was sent beyond hs.
-  pub origin : (k : ℕ) {hs gs : List (Entry C)} → hs ⊑ gs → (n : ℕ) (b : Event C) → length (sent sys k hs) ≤ n → nth (sent sys k gs) n ≡ Some b → Origin k hs gs b
+  pub origin : (k : ℕ) {hs gs : List (Entry C)} → hs ⊑ gs → (n : ℕ) (b : Event C) → length (sent sys k hs) ≤ n → nth (sent sys k gs) n ≡ Some b
+      → Origin k hs gs b
   unfolding sent
   origin k {hs = hs} same n b l h = let g = nth-below (sent sys k hs) n h in absurd (omega arith)
   origin k {hs = hs} (more {y = e} {ys = us} a) n b l h = ⊎-elim

@@ -15,7 +15,8 @@ use Rattle.model.specs.declared.refusal.Breach.{Breach}
 use Rattle.model.specs.Lists.{oldest, update}
 use Rattle.model.specs.Shape.{target, delay}
 use Rattle.simulation.specs.Net.{Program, Net, Outgoing, handle, breach-of}
-use Rattle.simulation.specs.Simulation.{Sim, Stop, Choice, last-arrival, pending-with, last-with, opening-on, start, lowest, stop-process, take-event, settle, act, turn, turns, enough, simulated}
+use Rattle.simulation.specs.Simulation.{Sim, Stop, Choice, last-arrival, pending-with, last-with, opening-on, start, lowest}
+use Rattle.simulation.specs.Simulation.{stop-process, take-event, settle, act, turn, turns, enough, simulated}
 use Rattle.simulation.specs.Prepare.{Limits}
 use Rattle.simulation.specs.Law.{Over}
 use Rattle.simulation.proofs.Tests.{none-is-some, none-some, some-same, if-same, if-other, update-same, update-is, update-other}
@@ -34,6 +35,7 @@ last-newest d [] acc = refl
 last-newest d (x ∷ xs) acc = last-newest d xs (x ∷ acc)
 
 module _ {C P : Type 0} (g : Program C P) (net : Net C P) where
+  -- The net as a system.
   abbrev N : System C (Option P)
   N = system g net
 
@@ -48,11 +50,13 @@ module _ {C P : Type 0} (g : Program C P) (net : Net C P) where
   Same-stop p hs (Some z) None = ⊥
   Same-stop p hs (Some z) (Some e) = (z .choice ≡ record { process = p; link = e .link; event = e .event }) × (breach-at p hs e ≡ Some (z .breach))
 
+  -- A process that the simulation has not stopped goes on in the course.
   stop-none : (p : ℕ) (hs : List (Entry C)) (o : Option (Stop C)) (e : Option (Entry C)) → Same-stop p hs o e → o ≡ None → e ≡ None
   stop-none p hs None None x q = refl
   stop-none p hs None (Some e) x q = absurd x
   stop-none p hs (Some z) e x q = none-is-some (sym q)
 
+  -- And the other way.
   none-stop : (p : ℕ) (hs : List (Entry C)) (o : Option (Stop C)) (e : Option (Entry C)) → Same-stop p hs o e → e ≡ None → o ≡ None
   none-stop p hs None e x q = refl
   none-stop p hs (Some z) None x q = absurd x
@@ -103,6 +107,7 @@ module _ {C P : Type 0} (g : Program C P) (net : Net C P) where
   }
 
   module _ (limits : Limits net) (s : Sim C P) (t : Course C) (m : Mirrors s t) where
+    -- The first pending event of a link is what waits there.
     first-next : (k : ℕ) → k < length (net .plan .links) → next N k (t .h (N .source k)) (t .h (N .target k)) ≡ oldest (s .pending k)
     first-next k l = queue-first N (t .h) k ∙ ap oldest (sym (m .queues k l))
 
@@ -119,6 +124,7 @@ module _ {C P : Type 0} (g : Program C P) (net : Net C P) where
           soon = p .soon;
         }
 
+    -- The choice of the event a of the link k.
     abbrev choice-of : ℕ → Event C → Choice C
     choice-of k a = record { process = N .target k; link = k; event = a }
 
@@ -138,28 +144,36 @@ module _ {C P : Type 0} (g : Program C P) (net : Net C P) where
         record { waits = pending-waits c (p .pending); lowest = λ j b w. rw here (p .least (choice-of j b) (waits-pending j b w)) }
 
     module _ (same : Constant g) (ok : Proper N) (k : ℕ) (a : Event C) (ch : Chosen N t k a) where
+      -- The process of the chosen event.
       abbrev p : ℕ
       p = N .target k
 
+      -- The event as an entry.
       abbrev e : Entry C
       e = entry k a
 
+      -- The choice of it.
       abbrev c : Choice C
       c = choice-of k a
 
+      -- The histories once it is taken.
       abbrev h′ : ℕ → List (Entry C)
       h′ = grown N (t .h) k a
 
+      -- The state of p.
       abbrev st : Has-state g net p (t .h p)
       st = has-state g net same limits p (ch .waits .is-process) (t .h p)
 
+      -- What goes out as p handles the event.
       abbrev out : Option (Outgoing C)
       out = handle g (net .plan) p (st .x) k a .1
 
+      -- The system sends the same.
       answers : answer N p (t .h p) e ≡ out
       unfolding answer
       answers = ap (λ (z : Option P). rule-of g net p z e .1) (st .is)
 
+      -- And has the same next state.
       stated : state N p (e ∷ t .h p) ≡ Some (handle g (net .plan) p (st .x) k a .0)
       unfolding state
       stated = ap (λ (z : Option P). rule-of g net p z e .0) (st .is)
@@ -170,6 +184,7 @@ module _ {C P : Type 0} (g : Program C P) (net : Net C P) where
           let own = ok .own p (ch .waits .is-process) (t .h p) e x (answers ∙ w) in
           m .lasts (x .link) (own .0) ∙ ap (λ (r : ℕ). last N (x .link) (t .h r)) (own .1)
 
+      -- The breach that the simulation finds, if any.
       abbrev verdict : Option Breach
       verdict = breach-of p (a .time + g .lookahead (st .x)) (delay (net .plan)) (s .last) out
 
@@ -180,14 +195,17 @@ module _ {C P : Type 0} (g : Program C P) (net : Net C P) where
           ∙ ap (λ n. breach-of p (a .time + n) (delay (net .plan)) (λ j. last N j (t .h p)) out) (sym (st .look))
           ∙ breach-bounds p (a .time + g .lookahead (st .x)) (delay (net .plan)) (λ j. last N j (t .h p)) (s .last) out (λ x w. sym (at-last x w))
 
+      -- Without one, the event is handled fairly.
       fair : verdict ≡ None → Fair N p (t .h p) e
       fair q = breach-none p (a .time + N .lookahead p) (delay (net .plan)) (λ j. last N j (t .h p)) (answer N p (t .h p) e) (verdict-at ∙ q)
 
+      -- With one, it is not.
       unfair : (b : Breach) → verdict ≡ Some b → ¬ (Fair N p (t .h p) e)
       unfair b q f =
           let B = breach-some p (a .time + N .lookahead p) (delay (net .plan)) (λ j. last N j (t .h p)) (answer N p (t .h p) e) b (verdict-at ∙ q) in
           B .breaks (f (B .x) (B .sends))
 
+      -- Stops stay as the event is taken.
       stop-kept : (q : ℕ) → Same-stop q (h′ q) (s .stopped q) (t .stopped q)
       stop-kept q = by-cases (ℕ-discrete q p)
           (λ r. go (h′ q) (s .stopped q) (t .stopped q) (m .stops q) (rw r (ch .waits .goes)))
@@ -207,10 +225,12 @@ module _ {C P : Type 0} (g : Program C P) (net : Net C P) where
         queues = λ j l.
             append-last out (update (s .pending) k (tail (s .pending k))) j
             ∙ ap (put-last N j out) (tail-without (s .pending) k a j ∙ ap (without j e) (m .queues j l))
-            ∙ sym (queue-take N ok (t .h) (m .enough) p e (ch .waits .is-process) refl (ch .waits .is) j ∙ ap (λ o. put-last N j o (without j e (queue N (t .h) j))) answers);
+            ∙ sym (queue-take N ok (t .h) (m .enough) p e (ch .waits .is-process) refl (ch .waits .is) j
+            ∙ ap (λ o. put-last N j o (without j e (queue N (t .h) j))) answers);
         lasts = λ j l.
             arrive-newest out (s .last) j (sent N j (t .h (N .source j))) (m .lasts j l)
-            ∙ sym (ap (newest (delay (net .plan) j)) (sent-take N ok (t .h) (m .enough) p e (ch .waits .is-process) refl (ch .waits .is) j ∙ ap (λ o. post N j o (sent N j (t .h (N .source j)))) answers));
+            ∙ sym (ap (newest (delay (net .plan) j))
+            (sent-take N ok (t .h) (m .enough) p e (ch .waits .is-process) refl (ch .waits .is) j ∙ ap (λ o. post N j o (sent N j (t .h (N .source j)))) answers));
         stops = stop-kept;
         histories = λ q. by-cases (ℕ-discrete q p)
             (λ r. rw r (update-same (s .history) p _ ∙ ap (λ l. l ++ to-record g net p e ∷ []) (m .histories p)
@@ -239,10 +259,12 @@ module _ {C P : Type 0} (g : Program C P) (net : Net C P) where
         is-turn : Turn N t after
         mirrors : Mirrors r after
 
+      -- The turn, by what was found.
       settled : (v : Option Breach) → verdict ≡ v → Turned (settle g net s c (handle g (net .plan) p (st .x) k a) v)
       settled None q = record { after = record { h = h′; stopped = t .stopped }; is-turn = takes ch (fair q); mirrors = take-mirrors }
       settled (Some b) q = record { after = record { h = t .h; stopped = update (t .stopped) p (Some e) }; is-turn = stops ch (unfair b q); mirrors = stop-mirrors b q }
 
+      -- The turn of the simulation.
       turned : Turned (act g net s c (s .state p))
       turned = subst (λ (z : Option P). Turned (act g net s c z)) (sym (m .states p ∙ st .is)) (settled verdict refl)
 
@@ -253,6 +275,7 @@ module _ {C P : Type 0} (g : Program C P) (net : Net C P) where
       pub comes : Comes N course
       pub mirrors : Mirrors s course
 
+    -- A turn leads on.
     turn-told : (s : Sim C P) (t : Told s) (c : Choice C) → lowest net s ≡ Some c → Told (turn g net s (Some c))
     turn-told s t c e =
         let pick = picked net s c e in
@@ -264,6 +287,7 @@ module _ {C P : Type 0} (g : Program C P) (net : Net C P) where
         let told : Told (turn g net s (Some d)) = record { course = r .after; comes = goes-on (t .comes) (r .is-turn); mirrors = r .mirrors } in
         subst (λ (z : Choice C). Told (turn g net s (Some z))) is told
 
+    -- So do many.
     turns-told : (n : ℕ) (s : Sim C P) → Told s → Told (turns g net n s)
     turns-told zero s t = t
     turns-told (suc n) s t = turns-told n (turn g net s (lowest net s)) (go (lowest net s) refl)

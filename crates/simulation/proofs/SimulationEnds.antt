@@ -18,7 +18,8 @@ use Rattle.model.specs.declared.refusal.Breach.{Breach}
 use Rattle.model.specs.Lists.{at, oldest, update, is-none, total}
 use Rattle.model.specs.Shape.{source, delay}
 use Rattle.simulation.specs.Net.{Program, Net, Outgoing, handle, breach-of}
-use Rattle.simulation.specs.Simulation.{Sim, Stop, Choice, arriving, pending-with, opening-on, start, lowest, stop-process, take-event, settle, act, turn, turns, enough, lookahead-of}
+use Rattle.simulation.specs.Simulation.{Sim, Stop, Choice, arriving, pending-with, opening-on, start, lowest, lookahead-of}
+use Rattle.simulation.specs.Simulation.{stop-process, take-event, settle, act, turn, turns, enough}
 use Rattle.simulation.specs.Prepare.{Limits}
 use Rattle.simulation.specs.Law.{Over}
 use Rattle.simulation.proofs.Tests.{none-is-some, update-same, update-is, update-other, update-cases}
@@ -35,6 +36,7 @@ module _ {C : Type 0} (horizon : ℕ) where
   load [] = 0
   load (e ∷ es) = (horizon - e .time) + load es
 
+  -- An event more adds its time.
   load-append : (es : List (Event C)) (e : Event C) → load (es ++ e ∷ []) ≡ load es + (horizon - e .time)
   load-append [] e = omega arith
   load-append (d ∷ es) e = let i = load-append es e in omega arith
@@ -54,6 +56,7 @@ abbrev one-if : {C : Type 0} → Option (Stop C) → ℕ
 one-if o = cond (is-none o) 1 0
 
 module _ {C P : Type 0} (g : Program C P) (net : Net C P) where
+  -- The time that the events pending on k have.
   abbrev time-left : (ℕ → List (Event C)) → ℕ → ℕ
   time-left pending k = load (net .plan .horizon) (pending k)
 
@@ -65,6 +68,7 @@ module _ {C P : Type 0} (g : Program C P) (net : Net C P) where
   abbrev Alive : Sim C P → Type 0
   Alive s = (p : ℕ) → p < net .plan .processes → (x : P) × (s .state p ≡ Some x) × (g .lookahead x ≡ lookahead-of g (at (net .processes) p))
 
+  -- So it is at the start.
   start-alive : Limits net → Alive (start net)
   start-alive limits p l =
       let m = limits .as-many in
@@ -80,7 +84,8 @@ module _ {C P : Type 0} (g : Program C P) (net : Net C P) where
       nothing (suc n) = let i = nothing n in omega arith
   opening-load (o ∷ os) =
       let i = opening-load os in
-      let r = total-rise (length (net .plan .links)) (time-left (λ k. opening-on net k (o ∷ os))) (time-left (λ k. opening-on net k os)) (net .plan .horizon) (o .link) other here in
+      let r = total-rise (length (net .plan .links)) (time-left (λ k. opening-on net k (o ∷ os))) (time-left (λ k. opening-on net k os))
+      (net .plan .horizon) (o .link) other here in
       rw suc-mul (omega arith)
     where
       other : (k : ℕ) → k < length (net .plan .links) → k ≢ o .link → time-left (λ j. opening-on net j (o ∷ os)) k ≤ time-left (λ j. opening-on net j os) k
@@ -89,6 +94,7 @@ module _ {C P : Type 0} (g : Program C P) (net : Net C P) where
       here : time-left (λ j. opening-on net j (o ∷ os)) (o .link) ≤ time-left (λ j. opening-on net j os) (o .link) + net .plan .horizon
       here = rw (eq-eqb (o .link) (o .link) refl) (omega arith)
 
+  -- So the weight at the start is no more than the turns.
   start-weight : weight (start net) ≤ enough g net
   start-weight =
       let a = opening-load (net .opening) in
@@ -96,12 +102,15 @@ module _ {C P : Type 0} (g : Program C P) (net : Net C P) where
       omega arith
 
   module _ (same : Constant g) (far : Reaching g net) (limits : Limits net) (s : Sim C P) (alive : Alive s) (c : Choice C) (pending : Pending net s c) where
+    -- The process of the choice.
     abbrev p : ℕ
     p = c .process
 
+    -- Its link.
     abbrev k : ℕ
     k = c .link
 
+    -- The process is there.
     is-process : p < net .plan .processes
     is-process = target-below (net .plan) (limits .within) k p (pending .leads)
 
@@ -118,6 +127,7 @@ module _ {C P : Type 0} (g : Program C P) (net : Net C P) where
     abbrev rest : ℕ → List (Event C)
     rest = update (s .pending) k (tail (s .pending k))
 
+    -- They have less time by that of the event.
     rest-less : total (length (net .plan .links)) (time-left rest) + (net .plan .horizon - c .event .time) ≤ total (length (net .plan .links)) (time-left (s .pending))
     rest-less = total-drop (length (net .plan .links)) (time-left rest) (time-left (s .pending)) (net .plan .horizon - c .event .time) k
         (λ j l. ⊎-elim
@@ -128,18 +138,22 @@ module _ {C P : Type 0} (g : Program C P) (net : Net C P) where
         (rw (update-same (s .pending) k (tail (s .pending k))) (let e = load-tail (net .plan .horizon) (s .pending k) (c .event) (pending .first) in omega arith))
 
     module _ (x : P) (is : s .state p ≡ Some x) (look : g .lookahead x ≡ lookahead-of g (at (net .processes) p)) where
+      -- What goes out as p handles the event.
       abbrev out : Option (Outgoing C)
       out = handle g (net .plan) p x k (c .event) .1
 
+      -- The breach that is found, if any.
       abbrev verdict : Option Breach
       verdict = breach-of p (c .event .time + g .lookahead x) (delay (net .plan)) (s .last) out
 
+      -- The simulation once the event is taken.
       abbrev after : Sim C P
       after = take-event g net s c (handle g (net .plan) p x k (c .event) .0) out
 
       -- What is sent has less time to the horizon than what was taken.
       sent-less : verdict ≡ None → (o : Option (Outgoing C)) → out ≡ o
-          → total (length (net .plan .links)) (time-left (pending-with (net .plan) o rest)) ≤ total (length (net .plan .links)) (time-left rest) + (net .plan .horizon - (c .event .time + 1))
+          → total (length (net .plan .links)) (time-left (pending-with (net .plan) o rest))
+          ≤ total (length (net .plan .links)) (time-left rest) + (net .plan .horizon - (c .event .time + 1))
       sent-less q None w = omega arith
       sent-less q (Some y) w =
           let own = outgoing-own g net p _ y w in
@@ -156,6 +170,7 @@ module _ {C P : Type 0} (g : Program C P) (net : Net C P) where
       take-less : verdict ≡ None → weight after + 1 ≤ weight s
       take-less q = let a = rest-less in let b = sent-less q out refl in let l = pending .soon in omega arith
 
+      -- Each process still has a state, with its first lookahead.
       take-alive : Alive after
       take-alive q l = by-cases (ℕ-discrete q p)
           (λ e. (
@@ -170,10 +185,12 @@ module _ {C P : Type 0} (g : Program C P) (net : Net C P) where
         lives : Alive s′
         less : weight s′ + 1 ≤ weight s
 
+      -- Either turn lessens the weight.
       settle-less : (v : Option Breach) → verdict ≡ v → Less (settle g net s c (handle g (net .plan) p x k (c .event)) v)
       settle-less None q = record { lives = take-alive; less = take-less q }
       settle-less (Some b) q = record { lives = alive; less = stop-less b }
 
+      -- So the turn does.
       act-less : Less (act g net s c (s .state p))
       act-less = subst (λ (o : Option P). Less (act g net s c o)) (sym is) (settle-less verdict refl)
 
@@ -183,6 +200,7 @@ module _ {C P : Type 0} (g : Program C P) (net : Net C P) where
   still (suc n) s e = subst (λ (o : Option (Choice C)). lowest net (turns g net n (turn g net s o)) ≡ None) (sym e) (still n s e)
 
   module _ (same : Constant g) (far : Reaching g net) (limits : Limits net) where
+    -- In as many turns as the weight says, nothing is left.
     ends : (n : ℕ) (s : Sim C P) → Alive s → weight s ≤ n → lowest net (turns g net n s) ≡ None
     ends zero s a l = go (lowest net s) refl
       where

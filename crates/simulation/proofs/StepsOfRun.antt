@@ -44,6 +44,7 @@ history-append p (x ∷ xs) ys = go (eqb (x .process) p) (history-append p xs ys
     go false e = e
 
 module _ {C P : Type 0} (g : Program C P) (net : Net C P) where
+  -- The net as a system.
   abbrev N : System C (Option P)
   N = system g net
 
@@ -61,6 +62,7 @@ module _ {C P : Type 0} (g : Program C P) (net : Net C P) where
   act-enough ok n (idle l i) = n
   act-enough ok {s = s} {p = p} n (takes e a f) = enough-kept N ok (s .h) n p e (a .is-process) (a .mine) (a .waits)
 
+  -- So it is all the way.
   gets-enough : Proper N → {c : Counted C} → Gets N c → Enough N (c .kernel .h)
   gets-enough ok boots = λ k. unfold taken in omega arith
   gets-enough ok (ticks d refused) = gets-enough ok d
@@ -85,13 +87,16 @@ module _ {C P : Type 0} (g : Program C P) (net : Net C P) where
   abbrev pub planned : View C P → View C P
   planned v = record { plan = net .plan; processes = v .processes; links = v .links; log = v .log; room = v .room; marked = v .marked; rounds = v .rounds }
 
+  -- It is v, if that is its plan.
   pub planned-same : (v : View C P) → v .plan ≡ net .plan → planned v ≡ v
   planned-same v e = λ i. record { plan = sym e i; processes = v .processes; links = v .links; log = v .log; room = v .room; marked = v .marked; rounds = v .rounds }
 
   module _ (same : Constant g) (limits : Limits net) (ok : Proper N) (v : View C P) (c : Counted C) (gets : Gets N c) (shows : Shows v c) (p : ℕ) where
+    -- The run, over the plan of the net.
     abbrev u : View C P
     u = planned v
 
+    -- The histories of the kernel.
     abbrev h : ℕ → List (Entry C)
     h = c .kernel .h
 
@@ -119,12 +124,15 @@ module _ {C P : Type 0} (g : Program C P) (net : Net C P) where
         }
 
     module _ (x : P) (ready : Ready u p x) where
+      -- The process is there.
       is-process : p < net .plan .processes
       is-process = ltb-true p (net .plan .processes) (and-true (as-prepared u) _ (ready .there) .1)
 
+      -- Its state is what its history tells.
       is-state : state N p (h p) ≡ Some x
       is-state = sym (shows .states p) ∙ ready .state
 
+      -- Its lookahead is the first one.
       pub look : g .lookahead x ≡ N .lookahead p
       look =
           let y = has-state g net same limits p is-process (h p) in
@@ -133,7 +141,8 @@ module _ {C P : Type 0} (g : Program C P) (net : Net C P) where
       -- Nothing is safe.
       idled : (nulls : ℕ) (w : View C P) → ((i : ℕ) (e : Event C) → ¬ (Safe (net .plan) (v .links) p i e)) → Idles g u p x nulls w → Moved c w
       idled nulls w no-safe i =
-          let act : Act N (c .kernel) p (tell N (c .kernel) p) = idle is-process (λ e a. no-safe (e .link) (e .event) (safe-from g net (v .links) (c .kernel) (shows .links) p e a)) in
+          let act : Act N (c .kernel) p (tell N (c .kernel) p) =
+          idle is-process (λ e a. no-safe (e .link) (e .event) (safe-from g net (v .links) (c .kernel) (shows .links) p e a)) in
           let t = ticked (tell N (c .kernel) p) w act (i .closes .marks) in
           record {
             to = record { kernel = tell N (c .kernel) p; marked = t .now-marked; rounds = t .now-rounds };
@@ -150,23 +159,29 @@ module _ {C P : Type 0} (g : Program C P) (net : Net C P) where
 
       -- The event e of the link i is safe.
       module _ (i : ℕ) (e : Event C) (safe : Safe (net .plan) (v .links) p i e) where
+        -- The event as an entry.
         abbrev ev : Entry C
         ev = entry i e
 
+        -- What goes out as p handles it.
         abbrev out : Option (Outgoing C)
         out = handle g (net .plan) p x i e .1
 
+        -- It is safe in the kernel.
         pub kernel-safe : K.Safe N (c .kernel) p ev
         kernel-safe = safe-to g net (v .links) (c .kernel) (shows .links) p i e is-process safe
 
+        -- The system sends the same.
         pub answers : answer N p (h p) ev ≡ out
         unfolding answer
         answers = ap (λ (z : Option P). rule-of g net p z ev .1) is-state
 
+        -- And has the same next state.
         stated : state N p (ev ∷ h p) ≡ Some (handle g (net .plan) p x i e .0)
         unfolding state
         stated = ap (λ (z : Option P). rule-of g net p z ev .0) is-state
 
+        -- What is no breach by the floors of the links is none by those of the kernel.
         fine : breach g u p x i e ≡ None → Fine N p (h p) ev (c .kernel .floor)
         fine q y w =
             let own = ok .own p is-process (h p) ev y w .0 in
@@ -178,16 +193,19 @@ module _ {C P : Type 0} (g : Program C P) (net : Net C P) where
             let f = shows .links .floors (y .link) own in
             record { ahead = omega arith; near = k .near; behind = omega arith }
 
+        -- The states once it is taken.
         states-after : (q : ℕ) → at (set (v .processes) p (handle g (net .plan) p x i e .0)) q ≡ state N q (update h p (ev ∷ h p) q)
         states-after q = by-cases (ℕ-discrete q p)
             (λ r. subst (λ (z : ℕ). at (set (v .processes) p (handle g (net .plan) p x i e .0)) z ≡ state N z (update h p (ev ∷ h p) z)) (sym r)
             (set-at (v .processes) p _ (at-lt (v .processes) p x (ready .state)) ∙ sym (ap (state N p) (update-same h p (ev ∷ h p)) ∙ stated)))
             (λ n. set-other (v .processes) p q _ n ∙ shows .states q ∙ sym (ap (state N q) (update-other h p q (ev ∷ h p) n)))
 
+        -- The histories once it is taken.
         histories-after : (q : ℕ) → history q (v .log ++ record-of g p i e ∷ []) ≡ map (to-record g net q) (reverse (update h p (ev ∷ h p) q))
         histories-after q =
             history-append q (v .log) (record-of g p i e ∷ []) ∙ ap (λ z. z ++ history q (record-of g p i e ∷ [])) (shows .histories q) ∙ by-cases (ℕ-discrete q p)
-            (λ r. subst (λ (z : ℕ). map (to-record g net z) (reverse (h z)) ++ history z (record-of g p i e ∷ []) ≡ map (to-record g net z) (reverse (update h p (ev ∷ h p) z))) (sym r)
+            (λ r. subst (λ (z : ℕ).
+            map (to-record g net z) (reverse (h z)) ++ history z (record-of g p i e ∷ []) ≡ map (to-record g net z) (reverse (update h p (ev ∷ h p) z))) (sym r)
             (ap (λ b. map (to-record g net p) (reverse (h p)) ++ cond b (record-of g p i e ∷ []) []) (eq-eqb p p refl)
             ∙ sym (map-append (to-record g net p) (reverse (h p)) (ev ∷ [])) ∙ ap (map (to-record g net p)) (sym (reverse-cons ev (h p)))
             ∙ ap (λ z. map (to-record g net p) (reverse z)) (sym (update-same h p (ev ∷ h p)))))
@@ -200,7 +218,8 @@ module _ {C P : Type 0} (g : Program C P) (net : Net C P) where
             let s = take-event N (c .kernel) p ev in
             let act : Act N (c .kernel) p (tell N s p) = takes ev kernel-safe (fine b) in
             let k = ticked (tell N s p) w act (t .closes .marks) in
-            let held = takes-out g net ok (v .links) (c .kernel) (shows .links) (gets-enough ok gets) p i e kernel-safe (t .without) (t .take) out (t .with-sent) answers (t .put) in
+            let held = takes-out g net ok (v .links) (c .kernel) (shows .links) (gets-enough ok gets) p i e kernel-safe
+            (t .without) (t .take) out (t .with-sent) answers (t .put) in
             record {
               to = record { kernel = tell N s p; marked = k .now-marked; rounds = k .now-rounds };
               tick = k .tick;
@@ -214,9 +233,22 @@ module _ {C P : Type 0} (g : Program C P) (net : Net C P) where
               };
             }
 
+    -- A refused step moves nothing.
     stays : Moved c u
-    stays = record { to = c; tick = refused; shows = record { plan = refl; links = shows .links; states = shows .states; histories = shows .histories; marked = shows .marked; rounds = shows .rounds } }
+    stays = record {
+      to = c;
+      tick = refused;
+      shows = record {
+        plan = refl;
+        links = shows .links;
+        states = shows .states;
+        histories = shows .histories;
+        marked = shows .marked;
+        rounds = shows .rounds;
+      };
+    }
 
+    -- A step over the plan of the net.
     planned-stepped : (r : Result (Stepped C) Refusal) (w : View C P) → Step g u p r w → Moved c w
     planned-stepped r w (Step.absent e) = stays
     planned-stepped r w (Step.held y s f) = stays

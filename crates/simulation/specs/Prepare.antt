@@ -79,8 +79,10 @@ module _ {C P : Type 0} (net : Net C P) where
   -- Prepare, on the links m and with a log of this size: its answer, and the links after it. Want of memory, which is not told of here, may refuse before anything is put.
   pub data Prepares (m : Pile C) (size : ℕ) : Result (View C P) Unprepared → Pile C → Type 0 where
     wrong-numbers : ¬ (As-planned m) → Prepares m size (Err WrongNumbers) m
-    not-fresh : {k : ℕ} → As-planned m → k < m .count → ¬ (Fits (net .plan) m k) → ((j : ℕ) → j < k → Fits (net .plan) m j) → Prepares m size (Err (NotFresh k)) m
-    not-opened : {r : Unprepared} {n : Pile C} → As-planned m → All-fit (net .plan) m → Opening-fails (net .plan) (net .opening) m r n → Prepares m size (Err r) n
+    not-fresh : {k : ℕ} → As-planned m → k < m .count → ¬ (Fits (net .plan) m k) → ((j : ℕ) → j < k → Fits (net .plan) m j)
+        → Prepares m size (Err (NotFresh k)) m
+    not-opened : {r : Unprepared} {n : Pile C} → As-planned m → All-fit (net .plan) m → Opening-fails (net .plan) (net .opening) m r n
+        → Prepares m size (Err r) n
     ready : {v : View C P} (p : Prepared v) → p .fresh ≡ m → v .room ≡ min size 65536 → Prepares m size (Ok v) (v .links)
     no-memory : As-planned m → All-fit (net .plan) m → Prepares m size (Err NoMemory) m
 

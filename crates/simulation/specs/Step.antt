@@ -37,7 +37,8 @@ module _ {C : Type 0} where
   pub data Nulls (t : ℕ) : List ℕ → Pile C → ℕ → Pile C → Type 0 where
     no-more : {m : Pile C} → Nulls t [] m 0 m
     skips : {k : ℕ} {ks : List ℕ} {m n : Pile C} {count : ℕ} → t + m .delay k ≤ m .floor k → Nulls t ks m count n → Nulls t (k ∷ ks) m count n
-    raises : {k : ℕ} {ks : List ℕ} {m l n : Pile C} {count : ℕ} → m .floor k < t + m .delay k → NullDone m k t l → Nulls t ks l count n → Nulls t (k ∷ ks) m (suc count) n
+    raises : {k : ℕ} {ks : List ℕ} {m l n : Pile C} {count : ℕ} → m .floor k < t + m .delay k → NullDone m k t l → Nulls t ks l count n
+        → Nulls t (k ∷ ks) m (suc count) n
 
 module _ {C P : Type 0} where
   -- The marks, and that of p.
