@@ -11,6 +11,8 @@ use model::answer::Passed;
 use model::event::Event;
 use model::event::EventClone;
 use model::links::Links;
+use model::numbered::LinkFaultNumbered;
+use model::numbered::Numbered;
 use model::record::Record;
 use ring::store::Ring;
 use ring::store::calls::RingLinks;
@@ -93,10 +95,31 @@ fn compared<S: Links<Vehicle> + Drop, T: Links<Vehicle> + Drop>(rt: &LibcRuntime
     Ok(())
 }
 
+// Fills a link with a quota of 3 until it refuses, and tells the refusal by its numbers.
+fn filled<S: Links<Vehicle> + Drop>(rt: &LibcRuntime, store: S, cargo: Vehicle) -> Result<(), AnyError> {
+    let mut links = Quota::new(store);
+    if links.set(0, 3).is_err() {
+        return Err("the quota is not set".into());
+    }
+    for time in 0..10u32 {
+        if let Err(fault) = links.put(0, time, cargo) {
+            let numbers = fault.numbers(rt.alloc())?;
+            eprintln!(rt, "a link with a quota of 3 took {time} events and then refused with {numbers:?}")?;
+            return Ok(());
+        }
+    }
+    Err("the link never refused".into())
+}
+
 fn worked_plan(rt: &LibcRuntime) -> Result<(), AnyError> {
     let heap = rt.alloc();
     let mut first = slots(heap, 32)?;
     let mut second = slots(heap, 8)?;
+    let mut third = slots(heap, 8)?;
+    let Some(cargo) = Vehicle::new(0, 0) else {
+        return Err("a vehicle is outside its limits".into());
+    };
+    filled(rt, Ring::new(third.as_mut_slice(), worked::LINKS), cargo)?;
     compared(rt, Ring::new(first.as_mut_slice(), worked::LINKS), Ring::new(second.as_mut_slice(), worked::LINKS))
 }
 
