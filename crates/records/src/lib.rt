@@ -1,0 +1,2 @@
+//! Plans read from text, and logs written as text.
+pub mod log;
