@@ -1,0 +1,5 @@
+//! Plans read from text.
+pub mod families;
+pub mod fields;
+pub mod kinds;
+pub mod words;
