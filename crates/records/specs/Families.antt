@@ -24,8 +24,11 @@ use Rattle.records.specs.declared.reading.words.Word.{Word}
 use Rattle.records.specs.declared.reading.words.Word.the-variants.{Net, Signal, Switch, Exit, Link, Event, Unknown}
 
 -- A word that is unknown, out of order or of the other family.
+abbrev pub misplaced-word : ℕ → RecordFault
+misplaced-word line = InField (faulty line 1 UnknownWord)
+
 abbrev pub misplaced : {A : Type 0} → ℕ → Result A RecordFault
-misplaced line = Err (InField (faulty line 1 UnknownWord))
+misplaced line = Err (misplaced-word line)
 
 -- What two fields in range make. There is one, so the fault is for show only.
 abbrev pub loaded-at : {A : Type 0} → ℕ → Option A → Result A RecordFault

@@ -5,3 +5,4 @@ pub mod Words
 pub mod Cells
 pub mod Kinds
 pub mod Families
+pub mod Adding
