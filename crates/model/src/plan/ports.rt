@@ -23,7 +23,7 @@ fn leaves(link: &Link, process: usize) -> bool
 }
 
 // How many links lead from a process.
-pub(super) fn out_count(links: &[Link], process: usize) -> usize
+pub fn out_count(links: &[Link], process: usize) -> usize
     ensures { λ r. ⌜ r ≡ length (leaving (now (links .entry)) process) ⌝ }
 {
     let mut count = 0;

@@ -1,0 +1,3 @@
+//! Plans read from text, and logs written as text.
+pub mod log;
+pub mod reading;
