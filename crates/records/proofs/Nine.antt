@@ -35,10 +35,10 @@ module _ {A : Type 0} (kind : Word → List ℕ → List ℕ → List ℕ → Li
   nine xs w n e =
       let fs = map now xs in
       ap (λ b. cond b (kind (word-of (getD fs 0 [])) (getD fs 1 []) (getD fs 2 []) (getD fs 3 []) (getD fs 4 []) (getD fs 5 []) (getD fs 6 []) (getD fs 7 []) (getD fs 8 [])) other)
-        (eq-eqb (length fs) 9 (length-map xs now ∙ n))
+      (eq-eqb (length fs) 9 (length-map xs now ∙ n))
       ∙ (λ i. kind ((ap word-of (at xs 0) ∙ sym e) i) (at xs 1 i) (at xs 2 i) (at xs 3 i) (at xs 4 i) (at xs 5 i) (at xs 6 i) (at xs 7 i) (at xs 8 i))
 
   pub not-nine : (fs : List (List ℕ)) → (length fs ≡ 9 → ⊥) → other ≡ by-nine fs
   not-nine fs n =
       sym (ap (λ b. cond b (kind (word-of (getD fs 0 [])) (getD fs 1 []) (getD fs 2 []) (getD fs 3 []) (getD fs 4 []) (getD fs 5 []) (getD fs 6 []) (getD fs 7 []) (getD fs 8 [])) other)
-        (ne-eqb (length fs) 9 n))
+      (ne-eqb (length fs) 9 n))

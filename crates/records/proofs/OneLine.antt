@@ -18,10 +18,10 @@ pub one-line : {P C : Type 0} (reads : ProcessReading P) (loads : CargoReading C
     (ps′ : List P) (ls′ : List Link) (qs′ : List (Option ℕ)) (os′ : List (Opening C)) (u : Unit {0})
     → _≡_ {A = Read P C} (ps′, ls′, qs′, os′, Ok u) (cut-taken reads loads rp rl rq ro from places line (cutLine bytes) ps ls qs os)
     → lines-taken reads loads rp rl rq ro from places (line + 1) more ps′ ls′ qs′ os′
-      ≡ lines-taken reads loads rp rl rq ro from places line (bytes ∷ more) ps ls qs os
+    ≡ lines-taken reads loads rp rl rq ro from places line (bytes ∷ more) ps ls qs os
 one-line {P} {C} reads loads rp rl rq ro from places line bytes more ps ls qs os ps′ ls′ qs′ os′ u e =
     let on : Read P C → AllRead P C = λ q. elim (q .4) [
-      Err e ↦ (q .0, q .1, q .2, q .3, Err (InRecord e))
-    | Ok u ↦ lines-taken reads loads rp rl rq ro from places (line + 1) more (q .0) (q .1) (q .2) (q .3)
+      | Err e ↦ (q .0, q .1, q .2, q .3, Err (InRecord e))
+      | Ok u ↦ lines-taken reads loads rp rl rq ro from places (line + 1) more (q .0) (q .1) (q .2) (q .3)
     ] in
     ap on e

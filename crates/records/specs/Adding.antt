@@ -149,8 +149,8 @@ abbrev pub record-taken : {P C : Type 0} → ProcessReading P → CargoReading C
 record-taken reads loads rp rl rq ro from places line fs ps ls qs os =
     cond (eqb (length fs) 9)
     (word-taken reads loads rp rl rq ro from places line (word-of (getD fs 0 []))
-      (getD fs 1 []) (getD fs 2 []) (getD fs 3 []) (getD fs 4 []) (getD fs 5 []) (getD fs 6 []) (getD fs 7 []) (getD fs 8 [])
-      ps ls qs os)
+    (getD fs 1 []) (getD fs 2 []) (getD fs 3 []) (getD fs 4 []) (getD fs 5 []) (getD fs 6 []) (getD fs 7 []) (getD fs 8 [])
+    ps ls qs os)
     (ps, ls, qs, os, Err (NotNineFields line))
 
 -- One line: a malformed field comes before all else.

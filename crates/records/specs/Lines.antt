@@ -27,6 +27,6 @@ lines-taken reads loads rp rl rq ro from places line [] ps ls qs os =
 lines-taken reads loads rp rl rq ro from places line (bytes ∷ more) ps ls qs os =
     let q = cut-taken reads loads rp rl rq ro from places line (cutLine bytes) ps ls qs os in
     elim (q .4) [
-      Err e ↦ (q .0, q .1, q .2, q .3, Err (InRecord e))
-    | Ok u ↦ lines-taken reads loads rp rl rq ro from places (line + 1) more (q .0) (q .1) (q .2) (q .3)
+      | Err e ↦ (q .0, q .1, q .2, q .3, Err (InRecord e))
+      | Ok u ↦ lines-taken reads loads rp rl rq ro from places (line + 1) more (q .0) (q .1) (q .2) (q .3)
     ]

@@ -48,7 +48,7 @@ abbrev pub first-fields : List (List ℕ) → Result net.Net RecordFault
 first-fields fs =
     cond (eqb (length fs) 9)
     (first-word (word-of (getD fs 0 []))
-      (getD fs 1 []) (getD fs 2 []) (getD fs 3 []) (getD fs 4 []) (getD fs 5 []) (getD fs 6 []) (getD fs 7 []) (getD fs 8 []))
+    (getD fs 1 []) (getD fs 2 []) (getD fs 3 []) (getD fs 4 []) (getD fs 5 []) (getD fs 6 []) (getD fs 7 []) (getD fs 8 []))
     (Err (NotNineFields 1))
 
 -- A malformed field comes before all else.
@@ -64,7 +64,7 @@ abbrev pub family-taken : {P C : Type 0} → ProcessReading P → CargoReading C
     → List P → List link.Link → List (Option ℕ) → List (Opening C) → FamilyRead P C
 family-taken reads loads rp rl rq ro header lines ps ls qs os =
     let q = lines-taken reads loads rp rl rq ro (record { processes = length ps; links = length ls; openings = length os })
-      (header .places) 2 lines ps ls qs os in
+    (header .places) 2 lines ps ls qs os in
     (q .0, q .1, q .2, q .3, mapped (λ _. header) (λ e. e) (q .4))
 
 -- The caller's lists, of both families.
@@ -93,11 +93,11 @@ PlanRead = Held × Result net.Net PlanFault
 abbrev pub in-family : words.Family → Rooms → net.Net → List (List ℕ) → Held → PlanRead
 in-family family.Road room header lines x =
     let q = family-taken road-process road-cargo (room .roads) (room .links) (room .quotas) (room .vehicles) header lines
-      (x .roads) (x .links) (x .quotas) (x .vehicles) in
+    (x .roads) (x .links) (x .quotas) (x .vehicles) in
     (record { roads = q .0; vehicles = q .3; switches = x .switches; frames = x .frames; links = q .1; quotas = q .2 }, q .4)
 in-family family.Switch room header lines x =
     let q = family-taken switch-process switch-cargo (room .switches) (room .links) (room .quotas) (room .frames) header lines
-      (x .switches) (x .links) (x .quotas) (x .frames) in
+    (x .switches) (x .links) (x .quotas) (x .frames) in
     (record { roads = x .roads; vehicles = x .vehicles; switches = q .0; frames = q .3; links = q .1; quotas = q .2 }, q .4)
 
 -- The net record, and then the lines behind it.

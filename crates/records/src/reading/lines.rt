@@ -45,11 +45,24 @@ fn take_line<C: Copy, P: ProcessKind<C>>(
         Ok(count) => count,
         Err(malformed) => {
             let field = malformed.field as u32;
-            return Err(RecordFault::InField(FieldFault { line, field, problem: Problem::Malformed }));
+            return Err(RecordFault::InField(FieldFault {
+                line,
+                field,
+                problem: Problem::Malformed,
+            }));
         }
     };
     if count == 9 {
-        take_record(starts, places, line, &fields, processes, links, quotas, openings)
+        take_record(
+            starts,
+            places,
+            line,
+            &fields,
+            processes,
+            links,
+            quotas,
+            openings,
+        )
     } else {
         Err(RecordFault::NotNineFields(line))
     }
@@ -71,7 +84,16 @@ pub(super) fn take_lines<C: Copy, P: ProcessKind<C>>(
     let mut rest = text;
     let mut line = 2;
     while let Some((record, after)) = split_line(rest) {
-        take_line(starts, places, line, record, processes, links, quotas, openings)?;
+        take_line(
+            starts,
+            places,
+            line,
+            record,
+            processes,
+            links,
+            quotas,
+            openings,
+        )?;
         line += 1;
         rest = after;
     }

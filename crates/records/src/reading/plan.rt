@@ -56,7 +56,11 @@ fn read_first(bytes: &[u8]) -> Result<Net, RecordFault>
         Ok(count) => count,
         Err(malformed) => {
             let field = malformed.field as u32;
-            return Err(RecordFault::InField(FieldFault { line: 1, field, problem: Problem::Malformed }));
+            return Err(RecordFault::InField(FieldFault {
+                line: 1,
+                field,
+                problem: Problem::Malformed,
+            }));
         }
     };
     if count == 9 {
@@ -78,7 +82,11 @@ fn read_family<C: Copy, P: ProcessKind<C>>(
     requires { ⌜ length (now text) ≤ 65536 ⌝ }
     ensures { λ r. ⌜ _≡_ {A = FamilyRead P C} (vec-items (now (processes .exit)), vec-items (now (links .exit)), vec-items (now (quotas .exit)), vec-items (now (openings .exit)), r) (family-taken (P·ProcessKind .processed) (P·ProcessKind .loaded) (vec-cap (now (processes .entry))) (vec-cap (now (links .entry))) (vec-cap (now (quotas .entry))) (vec-cap (now (openings .entry))) net (linesOf (now (text .entry))) (vec-items (now (processes .entry))) (vec-items (now (links .entry))) (vec-items (now (quotas .entry))) (vec-items (now (openings .entry)))) ⌝ }
 {
-    let starts = Starts { processes: processes.len(), links: links.len(), openings: openings.len() };
+    let starts = Starts {
+        processes: processes.len(),
+        links: links.len(),
+        openings: openings.len(),
+    };
     match take_lines(starts, net.places, text, processes, links, quotas, openings) {
         Ok(()) => Ok(net),
         Err(fault) => Err(fault),

@@ -133,11 +133,55 @@ fn take_word<C: Copy, P: ProcessKind<C>>(
         Word::Net | Word::Unknown => Err(misplaced(line)),
         Word::Link => {
             let count = past(processes, starts.processes).len();
-            take_link(starts, places, count, line, number, a, b, c, d, e, f, g, links, quotas, openings)
+            take_link(
+                starts,
+                places,
+                count,
+                line,
+                number,
+                a,
+                b,
+                c,
+                d,
+                e,
+                f,
+                g,
+                links,
+                quotas,
+                openings,
+            )
         }
-        Word::Event => take_event::<C, P>(starts, line, number, a, b, c, d, e, f, g, links, openings),
+        Word::Event => take_event::<C, P>(
+            starts,
+            line,
+            number,
+            a,
+            b,
+            c,
+            d,
+            e,
+            f,
+            g,
+            links,
+            openings,
+        ),
         Word::Signal | Word::Switch | Word::Exit => {
-            take_process(starts, line, word, number, a, b, c, d, e, f, g, processes, links, openings)
+            take_process(
+                starts,
+                line,
+                word,
+                number,
+                a,
+                b,
+                c,
+                d,
+                e,
+                f,
+                g,
+                processes,
+                links,
+                openings,
+            )
         }
     }
 }
@@ -162,5 +206,22 @@ pub(super) fn take_record<C: Copy, P: ProcessKind<C>>(
     let [kind, number, a, b, c, d, e, f, g] = fields else {
         return Err(RecordFault::NotNineFields(line));
     };
-    take_word(starts, places, line, read_word(kind), number, a, b, c, d, e, f, g, processes, links, quotas, openings)
+    take_word(
+        starts,
+        places,
+        line,
+        read_word(kind),
+        number,
+        a,
+        b,
+        c,
+        d,
+        e,
+        f,
+        g,
+        processes,
+        links,
+        quotas,
+        openings,
+    )
 }

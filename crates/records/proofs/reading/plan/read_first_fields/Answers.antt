@@ -29,4 +29,4 @@ returns-in-rest-read-word c =
     let all : length (c .args .fields .now) ≡ 9 = search needs in
     ap Err (c .misplaced .ensures)
     ∙ sym (nine first-word _ (c .args .fields .now) _ all (c .read-word .ensures)
-      ∙ not-net _ _ _ _ _ _ _ _ _ (c .in-rest-read-word .not-Net))
+    ∙ not-net _ _ _ _ _ _ _ _ _ (c .in-rest-read-word .not-Net))
