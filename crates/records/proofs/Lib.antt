@@ -1,3 +1,8 @@
 pub mod Putting
 pub mod Numbers
 pub mod Former
+pub mod Nine
+pub mod FewFields
+pub mod OneLine
+pub mod NotNet
+pub mod Planned

@@ -46,7 +46,7 @@ short e n ok =
     let time : e .time < 1000000 = ltb-true _ _ (times .1) in
     let link : e .link < 128 = ltb-true _ _ (links .1) in
     let few : (k m : ℕ) → 0 < k → m < 10 ^ k → m < 2 ^ 64 → length (digits m ++ comma) ≤ k + 1
-        = λ k m p h l. omega (arith, length-append (digits m) comma, few-digits k m p h l) in
+    = λ k m p h l. omega (arith, length-append (digits m) comma, few-digits k m p h l) in
     record {
       process = few 2 (e .process) (omega arith) (omega arith) (omega arith);
       place = few 5 n (omega arith) (omega arith) (omega arith);
@@ -62,10 +62,10 @@ short-code code small =
 pub written : (before after : List ℕ) (end : ℕ) (l : LogLine) (time code : ℕ) → 32 ≤ length before
     → time ≡ l .event .time → code ≡ l .event .code
     → Placed before 0
-      (((((digits (l .event .process) ++ comma) ++ (digits (l .n) ++ comma)) ++ (digits time ++ comma))
-      ++ (digits (l .event .link) ++ comma)) ++ (digits code ++ line-end)) end after
+    (((((digits (l .event .process) ++ comma) ++ (digits (l .n) ++ comma)) ++ (digits time ++ comma))
+    ++ (digits (l .event .link) ++ comma)) ++ (digits code ++ line-end)) end after
     → Written before l (Ok end) after
 written before after end l time code long t k p =
     let same : (((((digits (l .event .process) ++ comma) ++ (digits (l .n) ++ comma)) ++ (digits time ++ comma))
-      ++ (digits (l .event .link) ++ comma)) ++ (digits code ++ line-end)) ≡ bytes-of l = simp (append-assoc, t, k) in
+    ++ (digits (l .event .link) ++ comma)) ++ (digits code ++ line-end)) ≡ bytes-of l = simp (append-assoc, t, k) in
     ((λ few. omega arith), omega (arith, p .ends, ap length same), p .holds ∙ ap (λ (x : List ℕ). x ++ drop end before) same)

@@ -12,9 +12,11 @@ use Rattle.std.specs.declared.result.Result.the-variants.{Ok, Err}
 use Rattle.model.specs.Shape.{leaving}
 use Rattle.model.specs.declared.link.Link as link
 use Rattle.model.specs.declared.opening.Opening.{Opening}
+use Rattle.model.specs.declared.reading.Problem.the-variants.{Malformed}
 use Rattle.model.specs.declared.reading.RecordFault.{RecordFault}
 use Rattle.model.specs.declared.reading.RecordFault.the-variants.{InField, NotNineFields, TooMany, BackInTime}
-use Rattle.records.specs.Binding.{and-then}
+use Rattle.text.specs.Fields.{Cut, whole, broken}
+use Rattle.records.specs.Binding.{and-then, faulty}
 use Rattle.records.specs.Words.{word-of}
 use Rattle.records.specs.Cells.{ranged, unused, outside-of}
 use Rattle.records.specs.Kinds.{link-of}
@@ -109,3 +111,52 @@ abbrev pub event-taken : {C : Type 0} → CargoReading C → ℕ → Starts → 
     → List link.Link → List (Opening C) → List (Opening C) × Taken
 event-taken loads room from line n a b c d e f g ls os =
     event-added room (from .openings) line (event-of loads line (drop (from .links) ls) n a b c d e f g) os
+
+-- What the four lists of the caller hold, and the answer.
+abbrev pub Read : Type 0 → Type 0 → Type 0
+Read P C = List P × List link.Link × List (Option ℕ) × List (Opening C) × Taken
+
+-- The same where one record changes one kind of list only.
+abbrev pub with-process : {P C : Type 0} → List P × Taken → List link.Link → List (Option ℕ) → List (Opening C) → Read P C
+with-process q ls qs os = (q .0, ls, qs, os, q .1)
+
+abbrev pub with-link : {P C : Type 0} → List link.Link × List (Option ℕ) × Taken → List P → List (Opening C) → Read P C
+with-link q ps os = (ps, q .0, q .1, os, q .2)
+
+abbrev pub with-event : {P C : Type 0} → List (Opening C) × Taken → List P → List link.Link → List (Option ℕ) → Read P C
+with-event q ps ls qs = (ps, ls, qs, q .0, q .1)
+
+-- One record by its word. A second net record is out of order.
+abbrev pub word-taken : {P C : Type 0} → ProcessReading P → CargoReading C → ℕ → ℕ → ℕ → ℕ → Starts → ℕ → ℕ → Word
+    → List ℕ → List ℕ → List ℕ → List ℕ → List ℕ → List ℕ → List ℕ → List ℕ
+    → List P → List link.Link → List (Option ℕ) → List (Opening C) → Read P C
+word-taken reads loads rp rl rq ro from places line Net n a b c d e f g ps ls qs os = (ps, ls, qs, os, misplaced line)
+word-taken reads loads rp rl rq ro from places line Unknown n a b c d e f g ps ls qs os = (ps, ls, qs, os, misplaced line)
+word-taken reads loads rp rl rq ro from places line Signal n a b c d e f g ps ls qs os =
+    with-process (process-taken reads rp from line Signal n a b c d e f g ps ls os) ls qs os
+word-taken reads loads rp rl rq ro from places line Switch n a b c d e f g ps ls qs os =
+    with-process (process-taken reads rp from line Switch n a b c d e f g ps ls os) ls qs os
+word-taken reads loads rp rl rq ro from places line Exit n a b c d e f g ps ls qs os =
+    with-process (process-taken reads rp from line Exit n a b c d e f g ps ls os) ls qs os
+word-taken reads loads rp rl rq ro from places line Link n a b c d e f g ps ls qs os =
+    with-link (link-taken rl rq from places (length (drop (from .processes) ps)) line n a b c d e f g ls qs os) ps os
+word-taken reads loads rp rl rq ro from places line Event n a b c d e f g ps ls qs os =
+    with-event (event-taken loads ro from line n a b c d e f g ls os) ps ls qs
+
+-- One record by its fields: there must be nine.
+abbrev pub record-taken : {P C : Type 0} → ProcessReading P → CargoReading C → ℕ → ℕ → ℕ → ℕ → Starts → ℕ → ℕ → List (List ℕ)
+    → List P → List link.Link → List (Option ℕ) → List (Opening C) → Read P C
+record-taken reads loads rp rl rq ro from places line fs ps ls qs os =
+    cond (eqb (length fs) 9)
+    (word-taken reads loads rp rl rq ro from places line (word-of (getD fs 0 []))
+    (getD fs 1 []) (getD fs 2 []) (getD fs 3 []) (getD fs 4 []) (getD fs 5 []) (getD fs 6 []) (getD fs 7 []) (getD fs 8 [])
+    ps ls qs os)
+    (ps, ls, qs, os, Err (NotNineFields line))
+
+-- One line: a malformed field comes before all else.
+abbrev pub cut-taken : {P C : Type 0} → ProcessReading P → CargoReading C → ℕ → ℕ → ℕ → ℕ → Starts → ℕ → ℕ → Cut
+    → List P → List link.Link → List (Option ℕ) → List (Opening C) → Read P C
+cut-taken reads loads rp rl rq ro from places line (whole fs) ps ls qs os =
+    record-taken reads loads rp rl rq ro from places line fs ps ls qs os
+cut-taken reads loads rp rl rq ro from places line (broken fs) ps ls qs os =
+    (ps, ls, qs, os, Err (InField (faulty line (length fs + 1) Malformed)))

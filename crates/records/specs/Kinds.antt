@@ -51,7 +51,13 @@ signal-record line next number a b c d e f g =
     and-then InField (ranged line 8 1 10000 f) (λ crossing.
     and-then InField (unused line 9 g) (λ _.
     made-at line (signal-of (record {
-      lookahead = lookahead; cycle = cycle; green = green; offset = offset; headway = headway; crossing = crossing }))))))))))
+      lookahead = lookahead;
+      cycle = cycle;
+      green = green;
+      offset = offset;
+      headway = headway;
+      crossing = crossing;
+    }))))))))))
 
 -- switch: number, lookahead, service
 abbrev pub switch-record : ℕ → ℕ → List ℕ → List ℕ → List ℕ → List ℕ → List ℕ → List ℕ → List ℕ → List ℕ → Result Switch RecordFault

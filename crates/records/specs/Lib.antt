@@ -6,3 +6,5 @@ pub mod Cells
 pub mod Kinds
 pub mod Families
 pub mod Adding
+pub mod Lines
+pub mod PlanText

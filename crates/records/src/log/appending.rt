@@ -20,15 +20,30 @@ pub fn append_heading(out: &mut Vec<u8>) -> Result<(), AllocError>
 }
 
 // Appends the line of a record that stands at place n of its history. Without memory for it, the text stays as it is.
-pub fn append_record(out: &mut Vec<u8>, heap: Global, event: Record, n: usize) -> Result<(), AllocError>
+pub fn append_record(
+    out: &mut Vec<u8>,
+    heap: Global,
+    event: Record,
+    n: usize,
+) -> Result<(), AllocError>
     ensures { λ r. ⌜ vec-items (now (out .exit)) ≡ cond (isOk r) (vec-items (now (out .entry)) ++ number-line (line-numbers event n)) (vec-items (now (out .entry))) ⌝ }
 {
-    let numbers = [event.process as u64, n as u64, u64::from(event.time), event.link as u64, u64::from(event.code)];
+    let numbers = [
+        event.process as u64,
+        n as u64,
+        u64::from(event.time),
+        event.link as u64,
+        u64::from(event.code),
+    ];
     append_numbers(out, heap, &numbers)
 }
 
 // Appends the line of a refusal: its numbers. Without memory for it, the text stays as it is.
-pub fn append_refusal<R: Numbered>(out: &mut Vec<u8>, heap: Global, refusal: &R) -> Result<(), AllocError>
+pub fn append_refusal<R: Numbered>(
+    out: &mut Vec<u8>,
+    heap: Global,
+    refusal: &R,
+) -> Result<(), AllocError>
     ensures { λ r. ⌜ vec-items (now (out .exit)) ≡ cond (isOk r) (vec-items (now (out .entry)) ++ number-line (numbers (now (refusal .entry)))) (vec-items (now (out .entry))) ⌝ }
 {
     let numbers = refusal.numbers(heap)?;

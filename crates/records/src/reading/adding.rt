@@ -53,11 +53,20 @@ pub fn read_event<C: Copy, P: ProcessKind<C>>(
 pub(super) fn misplaced(line: u32) -> RecordFault
     ensures { λ r. ⌜ r ≡ misplaced-word line ⌝ }
 {
-    RecordFault::InField(FieldFault { line, field: 1, problem: Problem::UnknownWord })
+    RecordFault::InField(FieldFault {
+        line,
+        field: 1,
+        problem: Problem::UnknownWord,
+    })
 }
 
 // Adds a process that was read, if there is room for it.
-fn add_process<P: Copy>(line: u32, start: usize, read: Result<P, RecordFault>, processes: &mut Vec<P>) -> Result<(), RecordFault>
+pub(super) fn add_process<P: Copy>(
+    line: u32,
+    start: usize,
+    read: Result<P, RecordFault>,
+    processes: &mut Vec<P>,
+) -> Result<(), RecordFault>
     ensures items { λ r. ⌜ _≡_ {A = List P × Taken} (vec-items (now (processes .exit)), r) (process-added (vec-cap (now (processes .entry))) start line read (vec-items (now (processes .entry)))) ⌝ }
     ensures room { λ _. ⌜ vec-cap (now (processes .exit)) ≡ vec-cap (now (processes .entry)) ⌝ }
 {
@@ -74,7 +83,7 @@ fn add_process<P: Copy>(line: u32, start: usize, read: Result<P, RecordFault>, p
 }
 
 // Adds a link that was read, if there is room for it.
-fn add_link(
+pub(super) fn add_link(
     line: u32,
     start: usize,
     places: u32,
@@ -101,7 +110,7 @@ fn add_link(
 }
 
 // Adds an event that was read, if there is room for it and it is not before the former one of its link.
-fn add_event<C: Copy>(
+pub(super) fn add_event<C: Copy>(
     line: u32,
     start: usize,
     read: Result<Opening<C>, RecordFault>,

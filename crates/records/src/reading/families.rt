@@ -74,7 +74,11 @@ pub impl ProcessKind<Vehicle> for RoadKind as RoadKindReading {
                 Ok(exit) => Ok(RoadKind::Exit(exit)),
                 Err(fault) => Err(fault),
             },
-            _ => Err(RecordFault::InField(FieldFault { line, field: 1, problem: Problem::UnknownWord })),
+            _ => Err(RecordFault::InField(FieldFault {
+                line,
+                field: 1,
+                problem: Problem::UnknownWord,
+            })),
         }
     }
 
@@ -83,7 +87,11 @@ pub impl ProcessKind<Vehicle> for RoadKind as RoadKindReading {
         let route = read_in_range(line, 5, 0, 65_535, b)?;
         match Vehicle::new(class, route) {
             Some(vehicle) => Ok(vehicle),
-            None => Err(RecordFault::InField(FieldFault { line, field: 4, problem: Problem::OutOfRange })),
+            None => Err(RecordFault::InField(FieldFault {
+                line,
+                field: 4,
+                problem: Problem::OutOfRange,
+            })),
         }
     }
 }
@@ -115,7 +123,11 @@ pub impl ProcessKind<Frame> for PacketKind as PacketKindReading {
                 Ok(exit) => Ok(PacketKind::Exit(exit)),
                 Err(fault) => Err(fault),
             },
-            _ => Err(RecordFault::InField(FieldFault { line, field: 1, problem: Problem::UnknownWord })),
+            _ => Err(RecordFault::InField(FieldFault {
+                line,
+                field: 1,
+                problem: Problem::UnknownWord,
+            })),
         }
     }
 
@@ -124,7 +136,11 @@ pub impl ProcessKind<Frame> for PacketKind as PacketKindReading {
         let length = read_in_range(line, 5, 1, 9_000, b)?;
         match Frame::new(destination, length) {
             Some(frame) => Ok(frame),
-            None => Err(RecordFault::InField(FieldFault { line, field: 4, problem: Problem::OutOfRange })),
+            None => Err(RecordFault::InField(FieldFault {
+                line,
+                field: 4,
+                problem: Problem::OutOfRange,
+            })),
         }
     }
 }

@@ -8,12 +8,22 @@ use model::reading::Problem;
 use text::numbers::read_number;
 
 // A number from low to high.
-pub fn read_in_range(line: u32, field: u32, low: u32, high: u32, bytes: &[u8]) -> Result<u32, FieldFault>
+pub fn read_in_range(
+    line: u32,
+    field: u32,
+    low: u32,
+    high: u32,
+    bytes: &[u8],
+) -> Result<u32, FieldFault>
     ensures { λ r. ⌜ r ≡ ranged line field low high (now (bytes .entry)) ⌝ }
 {
     match read_number(bytes) {
         Some(n) if low <= n && n <= high => Ok(n),
-        _ => Err(FieldFault { line, field, problem: Problem::OutOfRange }),
+        _ => Err(FieldFault {
+            line,
+            field,
+            problem: Problem::OutOfRange,
+        }),
     }
 }
 
@@ -23,8 +33,16 @@ pub fn read_next(line: u32, next: usize, bytes: &[u8]) -> Result<u32, FieldFault
 {
     match read_number(bytes) {
         Some(n) if n as usize == next => Ok(n),
-        Some(_) => Err(FieldFault { line, field: 2, problem: Problem::NotNext }),
-        None => Err(FieldFault { line, field: 2, problem: Problem::OutOfRange }),
+        Some(_) => Err(FieldFault {
+            line,
+            field: 2,
+            problem: Problem::NotNext,
+        }),
+        None => Err(FieldFault {
+            line,
+            field: 2,
+            problem: Problem::OutOfRange,
+        }),
     }
 }
 
@@ -35,18 +53,35 @@ pub fn read_unused(line: u32, field: u32, bytes: &[u8]) -> Result<(), FieldFault
     if bytes.len() == 0 {
         Ok(())
     } else {
-        Err(FieldFault { line, field, problem: Problem::OutOfRange })
+        Err(FieldFault {
+            line,
+            field,
+            problem: Problem::OutOfRange,
+        })
     }
 }
 
 // The number of one of so many processes.
-pub fn read_process_number(line: u32, field: u32, processes: usize, bytes: &[u8]) -> Result<usize, FieldFault>
+pub fn read_process_number(
+    line: u32,
+    field: u32,
+    processes: usize,
+    bytes: &[u8],
+) -> Result<usize, FieldFault>
     ensures { λ r. ⌜ r ≡ existing-of line field processes (now (bytes .entry)) ⌝ }
 {
     match read_number(bytes) {
         Some(n) if (n as usize) < processes => Ok(n as usize),
-        Some(_) => Err(FieldFault { line, field, problem: Problem::Absent }),
-        None => Err(FieldFault { line, field, problem: Problem::OutOfRange }),
+        Some(_) => Err(FieldFault {
+            line,
+            field,
+            problem: Problem::Absent,
+        }),
+        None => Err(FieldFault {
+            line,
+            field,
+            problem: Problem::OutOfRange,
+        }),
     }
 }
 
@@ -103,7 +138,15 @@ pub fn read_outside_link(line: u32, links: &[Link], bytes: &[u8]) -> Result<usiz
 {
     match read_number(bytes) {
         Some(n) if is_outside(links, n as usize) => Ok(n as usize),
-        Some(_) => Err(FieldFault { line, field: 2, problem: Problem::Absent }),
-        None => Err(FieldFault { line, field: 2, problem: Problem::OutOfRange }),
+        Some(_) => Err(FieldFault {
+            line,
+            field: 2,
+            problem: Problem::Absent,
+        }),
+        None => Err(FieldFault {
+            line,
+            field: 2,
+            problem: Problem::OutOfRange,
+        }),
     }
 }

@@ -64,7 +64,12 @@ pub fn read_net(
     read_unused(line, 7, e)?;
     read_unused(line, 8, f)?;
     read_unused(line, 9, g)?;
-    Ok(Net { family, horizon, places, store })
+    Ok(Net {
+        family,
+        horizon,
+        places,
+        store,
+    })
 }
 
 pub fn read_signal(
@@ -89,10 +94,21 @@ pub fn read_signal(
     let headway = read_in_range(line, 7, 1, 10_000, e)?;
     let crossing = read_in_range(line, 8, 1, 10_000, f)?;
     read_unused(line, 9, g)?;
-    let settings = Settings { lookahead, cycle, green, offset, headway, crossing };
+    let settings = Settings {
+        lookahead,
+        cycle,
+        green,
+        offset,
+        headway,
+        crossing,
+    };
     match Signal::new(settings) {
         Some(signal) => Ok(signal),
-        None => Err(RecordFault::InField(FieldFault { line, field: 3, problem: Problem::OutOfRange })),
+        None => Err(RecordFault::InField(FieldFault {
+            line,
+            field: 3,
+            problem: Problem::OutOfRange,
+        })),
     }
 }
 
@@ -120,7 +136,11 @@ pub fn read_switch(
     read_unused(line, 9, g)?;
     match Switch::new(lookahead, service) {
         Some(switch) => Ok(switch),
-        None => Err(RecordFault::InField(FieldFault { line, field: 3, problem: Problem::OutOfRange })),
+        None => Err(RecordFault::InField(FieldFault {
+            line,
+            field: 3,
+            problem: Problem::OutOfRange,
+        })),
     }
 }
 
@@ -148,7 +168,11 @@ pub fn read_exit(
     read_unused(line, 9, g)?;
     match Exit::new(lookahead) {
         Some(exit) => Ok(exit),
-        None => Err(RecordFault::InField(FieldFault { line, field: 3, problem: Problem::OutOfRange })),
+        None => Err(RecordFault::InField(FieldFault {
+            line,
+            field: 3,
+            problem: Problem::OutOfRange,
+        })),
     }
 }
 
@@ -176,5 +200,8 @@ pub fn read_link(
     read_unused(line, 7, e)?;
     read_unused(line, 8, f)?;
     read_unused(line, 9, g)?;
-    Ok(PlannedLink { link: Link { from, to, delay }, quota })
+    Ok(PlannedLink {
+        link: Link { from, to, delay },
+        quota,
+    })
 }

@@ -61,7 +61,11 @@ pub fn read_family(line: u32, bytes: &[u8]) -> Result<Family, FieldFault>
     } else if same(bytes, b"switch") {
         Ok(Family::Switch)
     } else {
-        Err(FieldFault { line, field: 2, problem: Problem::UnknownWord })
+        Err(FieldFault {
+            line,
+            field: 2,
+            problem: Problem::UnknownWord,
+        })
     }
 }
 
@@ -74,6 +78,10 @@ pub fn read_store(line: u32, bytes: &[u8]) -> Result<Store, FieldFault>
     } else if same(bytes, b"pool") {
         Ok(Store::Pool)
     } else {
-        Err(FieldFault { line, field: 5, problem: Problem::UnknownWord })
+        Err(FieldFault {
+            line,
+            field: 5,
+            problem: Problem::UnknownWord,
+        })
     }
 }

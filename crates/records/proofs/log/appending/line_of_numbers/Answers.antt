@@ -34,4 +34,4 @@ pub returns : need.returns
 returns c =
     c .in-Continue-extend-from-slice .ensures tt .items
     ∙ ap (λ (x : List ℕ). x ++ line-end)
-      (c .loop-i .inv ∙ ap between-commas (take-all (c .loop-i .i) (c .args .numbers .now) (omega arith)))
+    (c .loop-i .inv ∙ ap between-commas (take-all (c .loop-i .i) (c .args .numbers .now) (omega arith)))

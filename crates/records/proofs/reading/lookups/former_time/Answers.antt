@@ -16,12 +16,12 @@ loop-opening-again g c =
     let o = c .opening-item .result in
     let more = former-more k os i o (c .loop-opening-test .taken) (c .opening-item .is) in
     elim (c .if-opening-link .came) [
-      then-opening-link w ↦
-        w .time-is
-        ∙ sym (more ∙ ap (λ b. cond b (o .time) (former k (take i os))) (eq-eqb (o .link) k (w .if-opening-link .taken)))
-    | else-opening-link w ↦
-        w .time-is ∙ c .loop-opening .inv
-        ∙ sym (more ∙ ap (λ b. cond b (o .time) (former k (take i os))) (ne-eqb (o .link) k (w .if-opening-link .left)))
+      | then-opening-link w ↦
+          w .time-is
+          ∙ sym (more ∙ ap (λ b. cond b (o .time) (former k (take i os))) (eq-eqb (o .link) k (w .if-opening-link .taken)))
+      | else-opening-link w ↦
+          w .time-is ∙ c .loop-opening .inv
+          ∙ sym (more ∙ ap (λ b. cond b (o .time) (former k (take i os))) (ne-eqb (o .link) k (w .if-opening-link .left)))
     ]
 
 pub returns : need.returns
