@@ -1,4 +1,6 @@
 //! An exit, where cargo of any kind leaves a net, and the limits that the settings of all kinds share.
+#![tactic(auto)]
+
 ghost use Rattle.std.specs.Prelude.{◌≡◌, true};
 ghost use Rattle.exit.specs.Limits.{between};
 

@@ -1,4 +1,6 @@
 //! The kernel: runs of a plan over any links, cargo and kind of process.
+#![tactic(auto)]
+
 mod asking;
 mod clock;
 mod marks;

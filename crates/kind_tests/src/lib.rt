@@ -1,4 +1,6 @@
 //! Tests of the kinds of process and of their cargo.
+#![tactic(auto)]
+
 #[cfg(test)]
 mod exits;
 #[cfg(test)]

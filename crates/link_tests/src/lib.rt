@@ -1,4 +1,6 @@
 //! Tests of the links: one script of calls for every store and layer.
+#![tactic(auto)]
+
 pub mod parcel;
 #[cfg(test)]
 mod rings;

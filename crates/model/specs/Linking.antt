@@ -1,5 +1,5 @@
 -- What each call of the links does: the meaning before, the arguments, the answer, and the meaning after.
-use Rattle.std.specs.Prelude.{◌≡◌, ℕ, ◌+◌, ◌<◌, ◌≤◌, ◌≢◌, List, [], ◌∷◌, ◌++◌, length, Ok, Err, Option, Result}
+use Rattle.std.specs.Prelude.{◌≡◌, ℕ, ◌+◌, ◌<◌, ◌≤◌, ◌≢◌, [], ◌∷◌, ◌++◌, length, Ok, Err, Option, Result}
 use Rattle.model.specs.declared.event.Event.{Event}
 use Rattle.model.specs.declared.fault.LinkFault.{LinkFault}
 use Rattle.model.specs.declared.fault.LinkFault.TheVariants.{NoSuchLink, PastLastTime, BelowFloor, Full, NothingWaits}

@@ -1,5 +1,5 @@
 -- What a plan says of its horizon, processes and links.
-use Rattle.std.specs.Prelude.{◌≡◌, ℕ, ◌<◌, ◌≤◌, Bool, true, false, ◌&&◌, leb, List, length, Some, None, Option, nat_le, nat_lt}
+use Rattle.std.specs.Prelude.{ℕ, Bool, true, ◌&&◌, leb, List, length, Some, None, Option, nat_le, nat_lt}
 use Rattle.model.specs.declared.link.Link.{Link}
 use Rattle.model.specs.Lists.{at, then, is, is_none, numbers_below, each}
 

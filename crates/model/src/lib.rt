@@ -1,4 +1,6 @@
 //! The vocabulary of the kernel: cargo, processes, links and plans, what the calls answer, and why they refuse.
+#![tactic(auto)]
+
 pub mod answer;
 pub mod cargo;
 pub mod event;

@@ -1,4 +1,6 @@
 //! From a plan's text to its log.
+#![tactic(auto)]
+
 pub mod histories;
 pub mod output;
 mod reading;

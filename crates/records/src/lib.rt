@@ -1,3 +1,5 @@
 //! Plans read from text, and logs written as text.
+#![tactic(auto)]
+
 pub mod log;
 pub mod reading;

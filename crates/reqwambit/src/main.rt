@@ -1,4 +1,6 @@
 //! The program. For now it runs the worked plan and writes its log.
+#![tactic(auto)]
+
 mod worked;
 
 use anyhow::anyhow;

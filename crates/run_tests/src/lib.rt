@@ -1,4 +1,6 @@
 //! Tests of runs over stacks of links.
+#![tactic(auto)]
+
 #[cfg(test)]
 mod finished;
 #[cfg(test)]

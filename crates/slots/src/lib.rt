@@ -1,4 +1,6 @@
 //! What the stores of links share: which numbers of links and slots they take.
+#![tactic(auto)]
+
 ghost use Rattle.std.specs.Prelude.{◌≡◌};
 ghost use Rattle.slots.specs.Empty.{suitable};
 

@@ -1,3 +1,5 @@
+#![tactic(auto)]
+
 // Text as bytes: lines and their fields read, decimal numbers read and written.
 pub mod bytes;
 pub mod fields;

@@ -1,3 +1,5 @@
+#![tactic(auto)]
+
 // Examples of text read and written.
 #[cfg(test)]
 mod tests {

@@ -1,4 +1,4 @@
-use Rattle.std.proofs.Common.{◌≡◌, ℕ, Bool, ◌&&◌, sym, ap, ◌∙◌}
+use Rattle.std.proofs.Common.{ℕ, Bool, ◌&&◌, sym, ap, ◌∙◌}
 use Rattle.model.specs.Lists.{at}
 use Rattle.model.specs.Shape.{joins}
 use Rattle.model.proofs.Places.{at_read, each_more}
