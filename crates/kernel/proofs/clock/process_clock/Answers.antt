@@ -18,7 +18,7 @@ loop-link-preserved g c =
     let more : least_clock m h (drop i c.args.ins.now) ≡ min (link_clock m (get_or c.args.ins.now i 0)) rest =
     at_drop_more (least_clock m h) c.args.ins.now i 0 c.loop-link-test.true in
     let inv = c.loop-link.invariant in
-    let here = c.clock-of.ensures in
+    let here = c.clock_of.ensures in
     let least = c.min-clock.ensures in
     (omega (arith, inv.0, least), omega (arith, inv.1, more, here, least))
 

@@ -18,18 +18,18 @@ loop-port-preserved g c =
     let more = raises_more c.args.time ks i short (m c.args.links.now) (m c.loop-port.links) n inv.0 in
     let same = skips_more c.args.time ks i short (m c.args.links.now) (m c.loop-port.links) n inv.0 in
     let At : ℕ → g.row.L.Denot → Type 0 = λ a l. Nulls c.args.time (take (i + 1) ks) (m c.args.links.now) a (m l) in
-    elim c.if-floor-of-time.branch [
+    elim c.if-floor_of-time.branch [
       | then-floor-of-time w ↦ (
-        subst (λ a. At a c.if-floor-of-time.links) (sym w.sent-is)
+        subst (λ a. At a c.if-floor_of-time.links) (sym w.sent-is)
             (subst (λ l. At (n + 1) l) (sym w.links-is) (more (m w.raise.new.links)
-            (omega (arith, c.floor-of.ensures, c.delay_of.ensures.is, w.if-floor-of-time.true)) w.raise.ensures)),
+            (omega (arith, c.floor_of.ensures, c.delay_of.ensures.is, w.if-floor_of-time.true)) w.raise.ensures)),
         ap (λ l. (m l).count) w.links-is ∙ w.raise.ensures.steady.count ∙ inv.1,
         omega (arith, w.sent-is, inv.2),
       )
       | else-floor-of-time w ↦ (
-        subst (λ a. At a c.if-floor-of-time.links) (sym w.sent-is)
+        subst (λ a. At a c.if-floor_of-time.links) (sym w.sent-is)
             (subst (λ l. At n l) (sym w.links-is)
-            (same (omega (arith, c.floor-of.ensures, c.delay_of.ensures.is, w.if-floor-of-time.false)))),
+            (same (omega (arith, c.floor_of.ensures, c.delay_of.ensures.is, w.if-floor_of-time.false)))),
         ap (λ l. (m l).count) w.links-is ∙ inv.1,
         omega (arith, w.sent-is, inv.2),
       )

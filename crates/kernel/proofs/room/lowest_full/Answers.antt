@@ -10,17 +10,17 @@ loop-link-preserved g c =
     let k = get_or c.args.outs.now i 0 in
     let rest = first_full m (drop (i + 1) c.args.outs.now) in
     let more = at_drop_more (first_full m) c.args.outs.now i 0 c.loop-link-test.true in
-    let free = ne_eqb (m.free k) 0 (λ e. c.if-free-of-eq0.false (c.free-of.ensures ∙ e)) in
+    let free = ne_eqb (m.free k) 0 (λ e. c.if-free_of-eq0.false (c.free_of.ensures ∙ e)) in
     ap (λ b. cond b (Some k) rest) (sym free) ∙ sym more ∙ c.loop-link.invariant
 
-pub returns-then-free-of-eq0 : goal.returns-then-free-of-eq0
-returns-then-free-of-eq0 g c =
+pub returns-then-free_of-eq0 : goal.returns-then-free_of-eq0
+returns-then-free_of-eq0 g c =
     let m = g.L.Links.meaning c.args.links.now in
     let i = c.loop-link.link-index in
     let k = get_or c.args.outs.now i 0 in
     let rest = first_full m (drop (i + 1) c.args.outs.now) in
     let more = at_drop_more (first_full m) c.args.outs.now i 0 c.loop-link-test.true in
-    let full = eq-eqb (m.free k) 0 (sym c.free-of.ensures ∙ c.if-free-of-eq0.true) in
+    let full = eq-eqb (m.free k) 0 (sym c.free_of.ensures ∙ c.if-free_of-eq0.true) in
     ap (λ b. cond b (Some k) rest) (sym full) ∙ sym more ∙ c.loop-link.invariant
 
 pub returns : goal.returns

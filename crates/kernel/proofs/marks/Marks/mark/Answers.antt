@@ -10,8 +10,8 @@ use Rattle.kernel.proofs.marks.Marks.mark.Goals as goal
 shifted : (w p : ℕ) → p < 64 → bit_or w ((1 * 2 ^ p) % 18446744073709551616) ≡ bit_or w (2 ^ p)
 shifted w p h = ap (bit_or w) (one_shl p 64 h)
 
-pub invariant-of-self-else-word-self : goal.invariant-of-self-else-word-self
-invariant-of-self-else-word-self c =
+pub invariant_of-self-else-word-self : goal.invariant_of-self-else-word-self
+invariant_of-self-else-word-self c =
     let s = c.args.self.now in
     let set = shifted s.word c.args.process (omega (arith, s.few, c.requires)) in
     (s.few, (word_fits s.processes s.word c.args.process _ c.requires s.within set, tt))
@@ -24,7 +24,7 @@ returns-then-word-self c =
     let full = sym (eq-eqb _ _ c.if-word-self.true) ∙ word_full s.processes s.word p _ c.requires s.within set in
     record {
       marked = λ q. none_set q ∙ ap (λ b. cond b false (update (bit s.word) p true q)) full;
-      rounds = c.saturating-add-self.ensures ∙ ap (λ b. cond b (min (s.rounds + 1) 4294967295) s.rounds) full;
+      rounds = c.saturating_add-self.ensures ∙ ap (λ b. cond b (min (s.rounds + 1) 4294967295) s.rounds) full;
       processes = refl;
     }
 

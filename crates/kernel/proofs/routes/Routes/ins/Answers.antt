@@ -17,7 +17,7 @@ returns c =
     let p = c.args.process in
     let links = vec_items s.plan.links in
     let there = rows (in_links (shape_of s.plan)) s.ins s.plan.processes s.arrivals in
-    let is_links = c.as-slice.ensures.value
+    let is_links = c.as_slice.ensures.value
     ∙ row (in_links (shape_of s.plan)) s.ins s.plan.processes p c.index.result.now s.arrivals c.requires
     (omega (arith, c.requires, there)) c.index.ensures in
     let test : ℕ → Bool = λ k. is p (target (shape_of s.plan) k) in

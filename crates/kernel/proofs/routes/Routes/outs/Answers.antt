@@ -18,7 +18,7 @@ returns c =
     let p = c.args.process in
     let links = vec_items s.plan.links in
     let there = rows (out_links (shape_of s.plan)) s.outs s.plan.processes s.departures in
-    let is_links = c.as-slice.ensures.value
+    let is_links = c.as_slice.ensures.value
     ∙ row (out_links (shape_of s.plan)) s.outs s.plan.processes p c.index.result.now s.departures c.requires
     (omega (arith, c.requires, there)) c.index.ensures in
     let test : ℕ → Bool = λ k. is p (source (shape_of s.plan) k) in

@@ -8,8 +8,8 @@ use Rattle.kernel.proofs.routes.made.all_in_links.Goals as goal
 pub loop-process-preserved : goal.loop-process-preserved
 loop-process-preserved c =
     row_more (in_links (shape_of c.args.plan.now)) (vec_items c.loop-process.all) (vec_items c.push.new.self)
-    c.in-ok-in-links.field-0 c.loop-process.process c.loop-process.invariant c.in-ok-push.ensures.items
-    c.in-ok-in-links.ensures
+    c.in_ok-in_links.field-0 c.loop-process.process c.loop-process.invariant c.in_ok-push.ensures.items
+    c.in_ok-in_links.ensures
 
 pub returns : goal.returns
 returns c =

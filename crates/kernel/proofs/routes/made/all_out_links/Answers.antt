@@ -8,8 +8,8 @@ use Rattle.kernel.proofs.routes.made.all_out_links.Goals as goal
 pub loop-process-preserved : goal.loop-process-preserved
 loop-process-preserved c =
     row_more (out_links (shape_of c.args.plan.now)) (vec_items c.loop-process.all) (vec_items c.push.new.self)
-    c.in-ok-out-links.field-0 c.loop-process.process c.loop-process.invariant c.in-ok-push.ensures.items
-    c.in-ok-out-links.ensures
+    c.in_ok-out_links.field-0 c.loop-process.process c.loop-process.invariant c.in_ok-push.ensures.items
+    c.in_ok-out_links.ensures
 
 pub returns : goal.returns
 returns c =

@@ -11,7 +11,7 @@ loop-process-preserved g c =
     let i = c.loop-process.process in
     let now : ℕ → ℕ = clock (shape_of s.routes.plan) (g.L.Links.meaning s.links) in
     let test : ℕ → Bool = λ p. eqb (now p) s.routes.plan.horizon in
-    let here = ap (λ t. eqb t c.horizon-horizon.result) c.clock-now.ensures ∙ ap (eqb (now i)) c.horizon-horizon.ensures.is in
+    let here = ap (λ t. eqb t c.horizon-horizon.result) c.clock_now.ensures ∙ ap (eqb (now i)) c.horizon-horizon.ensures.is in
     elim c.if-all.branch [
       | then-all w ↦ w.all-is ∙ here
           ∙ ap (λ b. b && test i) (sym w.if-all.true ∙ c.loop-process.invariant) ∙ sym (each_more i test)

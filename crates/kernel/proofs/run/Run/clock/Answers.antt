@@ -16,4 +16,4 @@ returns g c =
     let s = c.args.self.now in
     let now = clock (shape_of s.routes.plan) (g.L.Links.meaning s.links) c.args.process in
     called _ _ _ _ _
-    (ap Ok c.clock-now.ensures ∙ ap (λ b. cond b (Ok now) (Err NoSuch)) (sym c.if-not-has.false ∙ c.has.ensures), refl)
+    (ap Ok c.clock_now.ensures ∙ ap (λ b. cond b (Ok now) (Err NoSuch)) (sym c.if-not-has.false ∙ c.has.ensures), refl)

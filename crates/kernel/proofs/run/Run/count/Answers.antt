@@ -13,4 +13,4 @@ pub returns : goal.returns
 returns g c =
     let taken = length (history c.args.process (vec_items c.args.self.now.log)) in
     called _ _ _ _ _
-    (ap Ok c.taken-by.ensures ∙ ap (λ b. cond b (Ok taken) (Err NoSuch)) (sym c.if-not-has.false ∙ c.has.ensures), refl)
+    (ap Ok c.taken_by.ensures ∙ ap (λ b. cond b (Ok taken) (Err NoSuch)) (sym c.if-not-has.false ∙ c.has.ensures), refl)

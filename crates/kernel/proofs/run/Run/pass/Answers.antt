@@ -16,7 +16,7 @@ loop-process-preserved g c =
     let W = view_of m c.once.new.self in
     let both : c.if-all.all ≡ (c.loop-process.all && quiet c.once.result) =
     elim c.if-all.branch [
-      | then-all w ↦ w.all-is ∙ c.was-quiet-quiet.ensures ∙ ap (λ b. b && quiet c.once.result) (sym w.if-all.true)
+      | then-all w ↦ w.all-is ∙ c.was_quiet-quiet.ensures ∙ ap (λ b. b && quiet c.once.result) (sym w.if-all.true)
       | else-all w ↦ w.all-is ∙ w.if-all.false ∙ ap (λ b. b && quiet c.once.result) (sym w.if-all.false)
     ] in
     let stepped = Pass.steps c.loop-process.invariant c.once.ensures in

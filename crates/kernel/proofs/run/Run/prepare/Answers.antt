@@ -19,7 +19,7 @@ returns-then-len-processes g c = (
     | then-len-processes-via-then-len-processes w ↦
         w.if-len-processes.true (c.len.ensures ∙ c.args.processes.ok.0 ∙ planned.processes ∙ sym c.processes.ensures.is)
     | then-len-processes-via-else-len-processes+then-not-as-many w ↦
-        true≢false (sym (eq-eqb _ _ (planned.links ∙ sym w.link-count.ensures)) ∙ sym w.as-many.ensures ∙ w.if-not-as-many.true)
+        true≢false (sym (eq-eqb _ _ (planned.links ∙ sym w.link_count.ensures)) ∙ sym w.as_many.ensures ∙ w.if-not-as_many.true)
   ]),
   refl,
   refl,
@@ -30,7 +30,7 @@ returns-in-Some g c =
     let unfit = c.in-Some.ensures in (
       Prepares.not_fresh (record {
         processes = sym c.args.processes.ok.0 ∙ sym c.len.ensures ∙ c.if-len-processes.false ∙ c.processes.ensures.is;
-        links = eqb-true _ _ (sym c.as-many.ensures ∙ c.if-not-as-many.false) ∙ c.link-count.ensures;
+        links = eqb-true _ _ (sym c.as_many.ensures ∙ c.if-not-as_many.false) ∙ c.link_count.ensures;
       }) unfit.0 unfit.1 unfit.2,
       refl,
       refl,
@@ -40,8 +40,8 @@ pub returns-in-Err : goal.returns-in-Err
 returns-in-Err g c = (
   Prepares.no_memory (record {
     processes = sym c.args.processes.ok.0 ∙ sym c.len.ensures ∙ c.if-len-processes.false ∙ c.processes.ensures.is;
-    links = eqb-true _ _ (sym c.as-many.ensures ∙ c.if-not-as-many.false) ∙ c.link-count.ensures;
-  }) c.in-default.ensures,
+    links = eqb-true _ _ (sym c.as_many.ensures ∙ c.if-not-as_many.false) ∙ c.link_count.ensures;
+  }) c.in_default.ensures,
   c.in-Err.ensures,
   refl,
 )
@@ -52,20 +52,20 @@ returns-in-Err-open g c =
     let m = g.L.Links.meaning in (
       Prepares.not_opened (record {
         processes = sym c.args.processes.ok.0 ∙ sym c.len.ensures ∙ c.if-len-processes.false ∙ c.processes.ensures.is;
-        links = eqb-true _ _ (sym c.as-many.ensures ∙ c.if-not-as-many.false) ∙ c.link-count.ensures;
-      }) c.in-default.ensures
+        links = eqb-true _ _ (sym c.as_many.ensures ∙ c.if-not-as_many.false) ∙ c.link_count.ensures;
+      }) c.in_default.ensures
           (subst (λ plan. OpeningFails (shape_of plan) c.args.opening.now (m c.args.links) c.in-Err-open.why (m c.open.new.links)) same
           c.in-Err-open.ensures),
-      c.into-plan.ensures ∙ c.in-Ok.ensures.0,
+      c.into_plan.ensures ∙ c.in-Ok.ensures.0,
       refl,
     )
 
-pub tell-outside-requires : goal.tell-outside-requires
-tell-outside-requires g c =
+pub tell_outside-requires : goal.tell_outside-requires
+tell_outside-requires g c =
     let m = g.L.Links.meaning in
     let same = c.plan-2.ensures ∙ c.in-Ok.ensures.0 in
-    opens_count _ _ (m c.args.links) (m c.open.new.links) c.in-default-open.ensures
-    ∙ eqb-true _ _ (sym c.as-many.ensures ∙ c.if-not-as-many.false) ∙ c.link-count.ensures
+    opens_count _ _ (m c.args.links) (m c.open.new.links) c.in_default-open.ensures
+    ∙ eqb-true _ _ (sym c.as_many.ensures ∙ c.if-not-as_many.false) ∙ c.link_count.ensures
     ∙ ap (λ plan. length (vec_items plan.links)) (sym same)
 
 pub returns : goal.returns
@@ -73,7 +73,7 @@ returns g c =
     let m = g.L.Links.meaning in
     let parts = c.in-Ok.ensures in
     let opened = m c.open.new.links in
-    let told = c.tell-outside.ensures in
+    let told = c.tell_outside.ensures in
     let told_plan = c.plan-2.ensures ∙ parts.0 in
     just_prepared _ _ _ _ _ (record {
       limits = record {
@@ -83,11 +83,11 @@ returns g c =
       fresh = m c.args.links;
       opened = opened;
       nulls = told.0;
-      count = eqb-true _ _ (sym c.as-many.ensures ∙ c.if-not-as-many.false) ∙ c.link-count.ensures;
-      fits = c.in-default.ensures;
+      count = eqb-true _ _ (sym c.as_many.ensures ∙ c.if-not-as_many.false) ∙ c.link_count.ensures;
+      fits = c.in_default.ensures;
       opens = subst (λ plan. Opens (shape_of plan) c.args.opening.now (m c.args.links) opened) (c.plan.ensures ∙ parts.0)
-          c.in-default-open.ensures;
-      tell = subst (λ plan. Nulls plan.horizon (outside_links (shape_of plan)) opened told.0 (m c.tell-outside.new.links)) told_plan told.1;
+          c.in_default-open.ensures;
+      tell = subst (λ plan. Nulls plan.horizon (outside_links (shape_of plan)) opened told.0 (m c.tell_outside.new.links)) told_plan told.1;
       plan = ap shape_of parts.0;
       processes = refl;
       log = parts.1;

@@ -15,4 +15,4 @@ pub returns : goal.returns
 returns g c =
     let there = found (at (history c.args.process (vec_items c.args.self.now.log)) c.args.place) in
     called _ _ _ _ _
-    (c.record-of.ensures ∙ ap (λ b. cond b there (Err NoSuch)) (sym c.if-not-has.false ∙ c.has.ensures), refl)
+    (c.record_of.ensures ∙ ap (λ b. cond b there (Err NoSuch)) (sym c.if-not-has.false ∙ c.has.ensures), refl)

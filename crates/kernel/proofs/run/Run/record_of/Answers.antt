@@ -10,7 +10,7 @@ use Rattle.kernel.proofs.run.Run.record_of.Goals.{then-record-process+else-left-
 pub loop-record-preserved : goal.loop-record-preserved
 loop-record-preserved g c =
     let p = c.args.process in
-    let xs = c.as-slice-log.result.now in
+    let xs = c.as_slice-log.result.now in
     let i = c.loop-record.record-index in
     let rest = history p (drop (i + 1) xs) in
     elim c.if-record-process.branch [
@@ -27,15 +27,15 @@ loop-record-preserved g c =
 pub returns-then-left-eq0 : goal.returns-then-left-eq0
 returns-then-left-eq0 g c =
     let p = c.args.process in
-    let xs = c.as-slice-log.result.now in
+    let xs = c.as_slice-log.result.now in
     let i = c.loop-record.record-index in
     let next = history_next p xs i _ c.loop-record-test.true c.if-record-process.true in
     ap found (sym (ap (λ l. at l 0) next)) ∙ ap (λ n. found (at (history p (drop i xs)) n)) (sym c.if-left-eq0.true)
-    ∙ ap found c.loop-record.invariant ∙ ap (λ l. found (at (history p l) c.args.place)) c.as-slice-log.ensures.value
+    ∙ ap found c.loop-record.invariant ∙ ap (λ l. found (at (history p l) c.args.place)) c.as_slice-log.ensures.value
 
 pub returns : goal.returns
 returns g c =
     let p = c.args.process in
-    let xs = c.as-slice-log.result.now in
+    let xs = c.as_slice-log.result.now in
     let none = at_drop_all (λ l. found (at (history p l) c.loop-record.left)) xs c.loop-record.record-index c.loop-record-test.false in
-    sym none ∙ ap found c.loop-record.invariant ∙ ap (λ l. found (at (history p l) c.args.place)) c.as-slice-log.ensures.value
+    sym none ∙ ap found c.loop-record.invariant ∙ ap (λ l. found (at (history p l) c.args.place)) c.as_slice-log.ensures.value

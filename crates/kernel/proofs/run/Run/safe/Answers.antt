@@ -8,7 +8,7 @@ pub returns : goal.returns
 returns g c =
     let s = c.args.self.now in
     let m = g.L.Links.meaning s.links in
-    let o = c.safe-event.result in
+    let o = c.safe_event.result in
     found (shape_of s.routes.plan) m c.args.process o
     (subst (λ ks. SafeOr m s.routes.plan.horizon ks o) c.ins.ensures.value
-    (subst (λ h. SafeOr m h c.ins.result.now o) c.horizon.ensures.is c.safe-event.ensures))
+    (subst (λ h. SafeOr m h c.ins.result.now o) c.horizon.ensures.is c.safe_event.ensures))

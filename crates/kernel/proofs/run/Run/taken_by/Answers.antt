@@ -7,7 +7,7 @@ use Rattle.kernel.proofs.run.Run.taken_by.Goals.{then-record-process, else-recor
 
 pub loop-record-preserved : goal.loop-record-preserved
 loop-record-preserved g c =
-    let xs = c.as-slice-log.result.now in
+    let xs = c.as_slice-log.result.now in
     let i = c.loop-record.record-index in
     let inv = c.loop-record.invariant in
     elim c.if-record-process.branch [
@@ -21,7 +21,7 @@ loop-record-preserved g c =
 
 pub returns : goal.returns
 returns g c =
-    let xs = c.as-slice-log.result.now in
+    let xs = c.as_slice-log.result.now in
     let none = ap length (at_drop_all (history c.args.process) xs c.loop-record.record-index c.loop-record-test.false) in
-    let all = ap (λ l. length (history c.args.process l)) c.as-slice-log.ensures.value in
+    let all = ap (λ l. length (history c.args.process l)) c.as_slice-log.ensures.value in
     omega (arith, c.loop-record.invariant.1, none, all)

@@ -11,9 +11,9 @@ returns g c =
     let p = c.args.process in
     let program = program_of g.C.Cargo g.P.Process in
     record {
-      answer = subst (λ l. Decided c.same-in-logs.result (history p l ≡ history p c.args.b.now.log.items))
-          c.as-slice.ensures.value
-          (subst (λ l. Decided c.same-in-logs.result (history p c.as-slice.result.now ≡ history p l)) c.as-slice-2.ensures.value
-          c.same-in-logs.ensures);
+      answer = subst (λ l. Decided c.same_in_logs.result (history p l ≡ history p c.args.b.now.log.items))
+          c.as_slice.ensures.value
+          (subst (λ l. Decided c.same_in_logs.result (history p c.as_slice.result.now ≡ history p l)) c.as_slice-2.ensures.value
+          c.same_in_logs.ensures);
       law = λ net. law program g.met.P.Process.constant (λ n. reaching program n (λ s. (g.met.P.Process.within s).0)) net _ _;
     }

@@ -5,8 +5,8 @@ use Rattle.kernel.proofs.run.comparing.same_in_logs.Given as goal
 -- What is to come is equal exactly when all is.
 abbrev pub invariant-loop-after-a : goal.invariant-loop-after-a
 invariant-loop-after-a l =
-    (history l.process (drop l.in-a l.a) ≡ history l.process (drop l.in-b l.b))
+    (history l.process (drop l.in_a l.a) ≡ history l.process (drop l.in_b l.b))
     ↔ (history l.process l.a ≡ history l.process l.b)
 
 abbrev pub decreases-loop-after-a : goal.decreases-loop-after-a
-decreases-loop-after-a l = length l.a - l.in-a
+decreases-loop-after-a l = length l.a - l.in_a

@@ -4,8 +4,8 @@ use Rattle.model.specs.Made.{shape_of}
 use Rattle.kernel.proofs.FromOutside.{outside_is, outside_none}
 use Rattle.kernel.proofs.run.prepare.from_outside.Goals as goal
 
-pub returns-in-default : goal.returns-in-default
-returns-in-default c = sym (outside_none (shape_of c.args.plan.now) c.args.link (sym c.in-default.ensures))
+pub returns-in_default : goal.returns-in_default
+returns-in_default c = sym (outside_none (shape_of c.args.plan.now) c.args.link (sym c.in_default.ensures))
 
 pub returns-in-None : goal.returns-in-None
 returns-in-None c =

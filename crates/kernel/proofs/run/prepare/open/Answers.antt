@@ -8,12 +8,12 @@ use Rattle.kernel.proofs.run.prepare.open.Goals as goal
 pub loop-event-init : goal.loop-event-init
 loop-event-init g c = Opens.no_more
 
-pub returns-then-not-from-outside : goal.returns-then-not-from-outside
-returns-then-not-from-outside g c =
+pub returns-then-not-from_outside : goal.returns-then-not-from_outside
+returns-then-not-from_outside g c =
     let plan = shape_of c.args.plan.now in
     let o = c.event-item.result in
     fails_at plan c.args.opening.now c.loop-event.event-index o _ _ _ _ c.event-item.is c.loop-event-test.true c.loop-event.invariant
-    (OpeningFails.inside (outside_not plan o.link (sym c.from-outside.ensures ∙ c.if-not-from-outside.true)))
+    (OpeningFails.inside (outside_not plan o.link (sym c.from_outside.ensures ∙ c.if-not-from_outside.true)))
 
 pub returns-in-Err : goal.returns-in-Err
 returns-in-Err g c =
@@ -22,7 +22,7 @@ returns-in-Err g c =
     let o = c.event-item.result in
     let refused = c.in-Err.ensures in
     let before = m c.loop-event.links in
-    let from = outside_sound plan o.link (sym c.from-outside.ensures ∙ c.if-not-from-outside.false) in
+    let from = outside_sound plan o.link (sym c.from_outside.ensures ∙ c.if-not-from_outside.false) in
     let rest = o ∷ drop (c.loop-event.event-index + 1) c.args.opening.now in
     fails_at plan c.args.opening.now c.loop-event.event-index o _ _ _ _ c.event-item.is c.loop-event-test.true c.loop-event.invariant
     (subst (λ n. OpeningFails plan rest before (LinkRefused o.link c.in-Err.fault) n) (sym refused.1) (OpeningFails.refused from refused.0))
@@ -32,7 +32,7 @@ loop-event-preserved g c =
     let plan = shape_of c.args.plan.now in
     let o = c.event-item.result in
     opens_more plan c.args.opening.now c.loop-event.event-index o _ _ _ c.event-item.is c.loop-event-test.true c.loop-event.invariant
-    (outside_sound plan o.link (sym c.from-outside.ensures ∙ c.if-not-from-outside.false)) c.in-default.ensures
+    (outside_sound plan o.link (sym c.from_outside.ensures ∙ c.if-not-from_outside.false)) c.in_default.ensures
 
 pub returns : goal.returns
 returns g c =

@@ -22,25 +22,25 @@ loop-link-preserved g c =
     let first = m c.args.links.now in
     let before = m c.loop-link.links in
     let inv = c.loop-link.invariant in
-    let short : i < length plan.links = omega (arith, c.loop-link-test.true, c.link-count-link-end.ensures) in
-    let is_test = sym (outside_test plan i short) ∙ sym c.from-outside.ensures in
-    elim c.if-from-outside.branch [
+    let short : i < length plan.links = omega (arith, c.loop-link-test.true, c.link_count-link-end.ensures) in
+    let is_test = sym (outside_test plan i short) ∙ sym c.from_outside.ensures in
+    elim c.if-from_outside.branch [
       | then-from-outside+then-floor-of-horizon w ↦ (
         subst (λ l. Told plan.horizon test (i + 1) first (m l)) (sym w.links-is)
-            (told_more plan.horizon test i first before inv.0 (m w.raise.new.links) (is_test ∙ w.if-from-outside.true)
-            (omega (arith, h, w.floor-of.ensures, w.delay_of.ensures.is, w.if-floor-of-horizon.true))
+            (told_more plan.horizon test i first before inv.0 (m w.raise.new.links) (is_test ∙ w.if-from_outside.true)
+            (omega (arith, h, w.floor_of.ensures, w.delay_of.ensures.is, w.if-floor_of-horizon.true))
             (subst (λ t. NullDone before i t (m w.raise.new.links)) h w.raise.ensures)),
         ap (λ l. (m l).count) w.links-is ∙ w.raise.ensures.steady.count ∙ inv.1,
       )
       | then-from-outside+else-floor-of-horizon w ↦ (
         subst (λ l. Told plan.horizon test (i + 1) first (m l)) (sym w.links-is)
-            (told_high plan.horizon test i first before inv.0 (is_test ∙ w.if-from-outside.true)
-            (omega (arith, h, w.floor-of.ensures, w.delay_of.ensures.is, w.if-floor-of-horizon.false))),
+            (told_high plan.horizon test i first before inv.0 (is_test ∙ w.if-from_outside.true)
+            (omega (arith, h, w.floor_of.ensures, w.delay_of.ensures.is, w.if-floor_of-horizon.false))),
         ap (λ l. (m l).count) w.links-is ∙ inv.1,
       )
       | else-from-outside w ↦ (
         subst (λ l. Told plan.horizon test (i + 1) first (m l)) (sym w.links-is)
-            (told_without plan.horizon test i first before inv.0 (is_test ∙ w.if-from-outside.false)),
+            (told_without plan.horizon test i first before inv.0 (is_test ∙ w.if-from_outside.false)),
         ap (λ l. (m l).count) w.links-is ∙ inv.1,
       )
     ]
@@ -50,5 +50,5 @@ returns g c =
     let m = g.L.Links.meaning in
     let plan = shape_of c.args.plan.now in
     let ended : c.loop-link.link ≡ length plan.links =
-    omega (arith, c.loop-link-test.false, c.loop-link.auto.link-end, c.link-count-link-end.ensures) in
+    omega (arith, c.loop-link-test.false, c.loop-link.auto.link-end, c.link_count-link-end.ensures) in
     subst (λ n. Told plan.horizon (λ k. is_none (source plan k)) n (m c.args.links.now) (m c.loop-link.links)) ended c.loop-link.invariant.0
