@@ -6,7 +6,7 @@ use Rattle.std.proofs.lemmas.Fmt.{first_decimal, decimal_digit, decimal_nonempty
 use Rattle.std.proofs.lemmas.Slice.Eq.{bytes_eq-Decides}
 use Rattle.std.proofs.lemmas.List.{at_drop_more, at_drop_all}
 use Rattle.std.proofs.lemmas.Str.Parse.{IsNumeralModel, numerals_by_fold, tells_all_ascii_digits}
-use Rattle.std.proofs.lemmas.Bool.{and_left, and_right, and_parts, cases_lt, eq-eqb, ne_eqb, not_true, le-ltb, lt-ltb, ltb-true}
+use Rattle.std.proofs.lemmas.Bool.{and_left, and_right, and_parts, cases_lt, eq-eqb, ne_eqb, not-true, le-ltb, lt-ltb, ltb-true}
 use Rattle.text.specs.Decimal.{ReadsBack, digits, number_of, unpadded, valueFrom}
 use Rattle.text.proofs.TenthPart.{digits_decimal, tenth_part}
 
@@ -80,7 +80,7 @@ unpadded_parts : (ds : List ℕ) → unpadded ds ≡ true → (0 < length ds) ×
 unpadded_parts [] u = let z : ◌≡◌ {A = ℕ} 0 1 = cc in absurd (omega arith)
 unpadded_parts (d ∷ []) u = (omega arith, λ z. refl)
 unpadded_parts (d ∷ e ∷ ds) u =
-    (omega arith, λ z. let z' : ◌≡◌ {A = ℕ} 0 1 = cc (eq-eqb d 48 z, not_true _ u) in absurd (omega arith))
+    (omega arith, λ z. let z' : ◌≡◌ {A = ℕ} 0 1 = cc (eq-eqb d 48 z, not-true _ u) in absurd (omega arith))
 
 module _ (n : ℕ) (l : n < 2 ^ 64) where
   digits_some : 0 < length (digits n)
