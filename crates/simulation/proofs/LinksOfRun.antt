@@ -4,7 +4,7 @@ use mathlib.Core.List.{tail}
 use mathlib.Core.Logic.{by_cases}
 use native.Mathlib.Decide.{ℕ_discrete, dec_lt}
 use Rattle.model.specs.declared.event.Event.{Event}
-use Rattle.model.specs.Linking.{TakeDone, PutDone}
+use Rattle.model.specs.Linking.{TakeDone}
 use Rattle.model.specs.Lists.{oldest, update, is, numbers_below}
 use Rattle.model.specs.Pile.{Pile}
 use Rattle.model.specs.Shape.{source, target, delay, out_links}

@@ -1,6 +1,5 @@
 -- Where every lookahead is 1 or more, so is every reach.
-use Rattle.std.proofs.Common.{◌≡◌, ℕ, ◌+◌, ◌<◌, ◌≤◌, sym, refl, ap, ◌∙◌, arith}
-use Rattle.model.specs.Lists.{at}
+use Rattle.std.proofs.Common.{◌≤◌, arith}
 use Rattle.simulation.specs.Net.{Program, Net}
 use Rattle.simulation.specs.Prepare.{Limits}
 use Rattle.simulation.proofs.Places.{at_there}

@@ -5,7 +5,7 @@ use mathlib.Core.Logic.{by_cases}
 use native.Mathlib.Decide.{ℕ_discrete}
 use Rattle.model.specs.declared.event.Event.{Event}
 use Rattle.model.specs.declared.opening.Opening.{Opening}
-use Rattle.model.specs.Linking.{PutDone, NullDone}
+use Rattle.model.specs.Linking.{PutDone}
 use Rattle.model.specs.Pile.{Pile}
 use Rattle.model.specs.Shape.{delay}
 use Rattle.simulation.specs.Net.{Net}

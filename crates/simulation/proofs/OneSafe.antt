@@ -1,9 +1,8 @@
 -- At most one event of a process is safe.
-use Rattle.std.proofs.Common.{◌≡◌, ℕ, ◌<◌, Some, None, Option, sym, refl, ap, ◌∙◌, ⊎_elim, arith}
+use Rattle.std.proofs.Common.{◌≡◌, Option, sym, ap, arith}
 use mathlib.Core.Logic.{by_cases}
 use native.Mathlib.Decide.{ℕ_discrete}
 use Rattle.model.specs.declared.event.Event.{Event}
-use Rattle.model.specs.Pile.{Pile}
 use Rattle.simulation.specs.View.{due, link_clock, OneSafe}
 use Rattle.simulation.proofs.Tests.{some_same}
 

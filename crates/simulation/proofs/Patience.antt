@@ -10,7 +10,7 @@ use Rattle.model.specs.Lists.{total}
 use Rattle.model.specs.Pile.{Pile}
 use Rattle.model.specs.Shape.{in_links}
 use Rattle.simulation.specs.Net.{Program, Outgoing}
-use Rattle.simulation.specs.View.{View, least_clock, clock}
+use Rattle.simulation.specs.View.{View, least_clock}
 use Rattle.simulation.specs.Step.{Sent, Nulls, Closes, Step}
 use Rattle.simulation.specs.Calls.{quiet, Pass, Passes}
 use Rattle.simulation.proofs.Sums.{total_drop, total_most}

@@ -1,5 +1,5 @@
 -- A run just prepared is where the kernel of histories begins.
-use Rattle.std.proofs.Common.{◌≡◌, ℕ, ◌+◌, ◌<◌, ◌≤◌, max, false, cond, List, [], ◌++◌, reverse, length, Some, None, Option, sym, refl, ap, ◌∙◌, ap₂, ⊎_elim, arith}
+use Rattle.std.proofs.Common.{◌≡◌, ℕ, ◌+◌, ◌<◌, max, false, cond, [], ◌++◌, reverse, length, Option, sym, ap, ◌∙◌, ap₂, ⊎_elim, arith}
 use mathlib.Core.List.{reverse-reverse}
 use mathlib.Core.Logic.{if_pos, if_neg}
 use native.Mathlib.Decide.{dec_lt}

@@ -1,5 +1,5 @@
 -- The run of the relay and the sink, over links with room enough.
-use Rattle.std.proofs.Common.{◌≡◌, ℕ, zero, suc, ◌+◌, ◌-◌, ◌<◌, ◌≤◌, Bool, true, false, cond, List, [], ◌∷◌, ◌++◌, set, Some, None, Ok, Option, sym, refl, ap, ◌∙◌, arith, lit<, lit≤}
+use Rattle.std.proofs.Common.{◌≡◌, ℕ, zero, suc, ◌+◌, ◌-◌, ◌<◌, ◌≤◌, Bool, false, cond, List, [], ◌∷◌, ◌++◌, Some, None, Ok, sym, refl, ap, ◌∙◌, arith, lit<, lit≤}
 use mathlib.Core.List.{tail}
 use Rattle.model.specs.declared.event.Event.{Event}
 use Rattle.model.specs.declared.record.Record.{Record}
@@ -8,7 +8,7 @@ use Rattle.model.specs.Lists.{update}
 use Rattle.model.specs.Pile.{Pile}
 use Rattle.model.specs.Shape.{target, delay}
 use Rattle.model.specs.Sums.{plus}
-use Rattle.simulation.specs.View.{View, Safe}
+use Rattle.simulation.specs.View.{View}
 use Rattle.simulation.specs.Step.{Step, Nulls, marks_with, round_over}
 use Rattle.simulation.specs.Calls.{Call}
 use Rattle.simulation.specs.Prepare.{Opens, Prepared, After}

@@ -1,18 +1,18 @@
 -- The simulation runs the course that histories tell, turn by turn, to its end.
-use Rattle.std.proofs.Common.{◌≡◌, ℕ, zero, suc, ◌+◌, ◌<◌, ◌≤◌, cond, eqb, ◌≢◌, List, [], ◌∷◌, ◌++◌, map, reverse, length, Some, None, Option, sym, refl, ap, ◌∙◌, subst, ⊎_elim, arith}
+use Rattle.std.proofs.Common.{◌≡◌, ℕ, zero, suc, ◌+◌, ◌<◌, List, [], ◌∷◌, ◌++◌, map, reverse, length, Some, None, Option, sym, refl, ap, ◌∙◌, subst, arith}
 use mathlib.Core.List.{reverse_aux, reverse-cons, reverse-reverse, map-append, tail}
 use mathlib.Core.Logic.{by_cases}
 use native.Mathlib.Decide.{ℕ_discrete}
 use Rattle.model.specs.declared.event.Event.{Event}
 use Rattle.model.specs.declared.refusal.Breach.{Breach}
 use Rattle.model.specs.Lists.{oldest, update}
-use Rattle.model.specs.Shape.{target, delay}
+use Rattle.model.specs.Shape.{delay}
 use Rattle.simulation.specs.Net.{Program, Net, Outgoing, handle, breach_of}
 use Rattle.simulation.specs.Simulation.{Sim, Stop, Choice, last_arrival, pending_with, last_with, opening_on, start, lowest}
 use Rattle.simulation.specs.Simulation.{stop_process, take_event, settle, act, turn, turns, enough, simulated}
 use Rattle.simulation.specs.Prepare.{Limits}
 use Rattle.simulation.specs.Law.{Over}
-use Rattle.simulation.proofs.Tests.{none_is_some, none_some, some_same, if_same, if_other, update_same, update_is, update_other}
+use Rattle.simulation.proofs.Tests.{none_is_some, if_same, if_other, update_same, update_is, update_other}
 use Rattle.simulation.proofs.Breaches.{breach_none, breach_some, breach_bounds}
 use Rattle.simulation.proofs.System.{System, Entry, entry, newest, taken, without, state, answer, post, put_last, sent, last, next, queue, Fair, Proper}
 use Rattle.simulation.proofs.Queues.{Enough, queue_first, sent_take, enough_kept, queue_take}

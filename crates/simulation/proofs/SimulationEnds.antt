@@ -1,5 +1,5 @@
 -- The simulation ends: each turn lessens the time that pending events have to the horizon, or stops one process more.
-use Rattle.std.proofs.Common.{◌≡◌, ℕ, zero, suc, ◌+◌, ◌-◌, ◌*◌, ◌<◌, ◌≤◌, cond, eqb, ◌≢◌, List, [], ◌∷◌, ◌++◌, length, Some, None, Option, sym, refl, ap, ◌∙◌, subst, ⊎_elim, suc-mul, arith, eq-eqb, ne_eqb}
+use Rattle.std.proofs.Common.{◌≡◌, ℕ, zero, suc, ◌+◌, ◌-◌, ◌*◌, ◌<◌, ◌≤◌, cond, ◌≢◌, List, [], ◌∷◌, ◌++◌, length, Some, None, Option, sym, refl, ap, ◌∙◌, subst, ⊎_elim, suc-mul, arith, eq-eqb, ne_eqb}
 use mathlib.Core.List.{tail}
 use mathlib.Core.Logic.{by_cases}
 use native.Mathlib.Decide.{ℕ_discrete}
@@ -7,7 +7,7 @@ use Rattle.model.specs.declared.event.Event.{Event}
 use Rattle.model.specs.declared.opening.Opening.{Opening}
 use Rattle.model.specs.declared.refusal.Breach.{Breach}
 use Rattle.model.specs.Lists.{at, oldest, update, is_none, total}
-use Rattle.model.specs.Shape.{source, delay}
+use Rattle.model.specs.Shape.{delay}
 use Rattle.simulation.specs.Net.{Program, Net, Outgoing, handle, breach_of}
 use Rattle.simulation.specs.Simulation.{Sim, Stop, Choice, arriving, pending_with, opening_on, start, lowest, lookahead_of}
 use Rattle.simulation.specs.Simulation.{stop_process, take_event, settle, act, turn, turns, enough}

@@ -10,7 +10,7 @@ use Rattle.model.specs.declared.refusal.Refusal.{Refusal}
 use Rattle.model.specs.Lists.{at, update}
 use Rattle.model.specs.Sums.{plus}
 use Rattle.simulation.specs.Net.{Program, Net, Outgoing, handle, record_of}
-use Rattle.simulation.specs.View.{View, history, Safe, as_prepared, has}
+use Rattle.simulation.specs.View.{View, history, Safe, as_prepared}
 use Rattle.simulation.specs.Step.{Marks, Ready, Idles, Takes, Step, marks_with, round_over, breach}
 use Rattle.simulation.specs.Prepare.{Limits}
 use Rattle.simulation.proofs.Tests.{some_same, true_false, and_true, each_true, each_all, update_same, update_other}

@@ -1,5 +1,5 @@
 -- How a run begins, and the runs that calls lead to.
-use Rattle.std.specs.Prelude.{◌≡◌, ℕ, ◌<◌, ◌≤◌, min, true, false, List, [], ◌∷◌, length, None, Ok, Err, Option, Result}
+use Rattle.std.specs.Prelude.{◌≡◌, ℕ, ◌<◌, ◌≤◌, min, true, false, List, [], ◌∷◌, length, None, Ok, Err, Result}
 use Rattle.model.specs.declared.fault.LinkFault.{LinkFault}
 use Rattle.model.specs.declared.opening.Opening.{Opening}
 use Rattle.model.specs.declared.refusal.Unprepared.{Unprepared}

@@ -8,7 +8,7 @@ use Rattle.model.specs.declared.refusal.Refusal.TheVariants.{NoSuch, Held, LogFu
 use Rattle.model.specs.Linking.{PutDone, NullDone, TakeDone}
 use Rattle.model.specs.Lists.{at, update, each}
 use Rattle.model.specs.Pile.{Pile}
-use Rattle.model.specs.Shape.{Shape, out_links}
+use Rattle.model.specs.Shape.{out_links}
 use Rattle.model.specs.Sums.{plus}
 use Rattle.simulation.specs.Net.{Program, Outgoing, breach_of, handle, record_of}
 use Rattle.simulation.specs.View.{View, clock, Safe, has}
