@@ -13,7 +13,9 @@ import re
 import sys
 
 NAME = r"[^\s(){};,.:λ→\[\]«»|`\"]+"
-TOKEN = re.compile(r"[\w'⊑₀₁₂₃₄]+(?:-[\w'⊑₀₁₂₃₄]+)+")
+TOKEN = re.compile(r"[\w'⊑₀₁₂₃₄]+(?:-[\w'⊑₀₁₂₃₄]+)*")
+
+APART = {"without-cr": "without_cr_lem"}  # a lemma that would have the name of its function
 
 
 def files(*ends):
@@ -50,15 +52,18 @@ def declared():
 
 
 def respelled(name):
-    parts = name.split("-")
+    if name in APART:
+        return APART[name]
+    parts = re.split("[-_]", name)
     if name[0].isupper():
         return "".join(p[:1].upper() + p[1:] for p in parts)
-    return "_".join(parts)
+    return "_".join(re.sub("[A-Z]+", lambda m: "_" + m.group(0).lower(), p).lstrip("_") for p in parts) if re.search("[a-z][A-Z]", name) else "_".join(parts)
 
 
 def renames():
     own = declared()
-    to = {n: respelled(n) for n in own if TOKEN.fullmatch(n)}
+    to = {n: respelled(n) for n in own if TOKEN.fullmatch(n) and len(n) > 1 and "'" not in n}
+    to = {n: w for n, w in to.items() if n != w}
     bad = sorted(f"{n} and {w}" for n, w in to.items() if w in own)
     bad += sorted(f"{n} twice" for n in set(to.values()) if list(to.values()).count(n) > 1)
     if bad:

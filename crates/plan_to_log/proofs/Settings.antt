@@ -39,14 +39,14 @@ module _ {C : Type 0} (links : ℕ) (m : Pile C) (unset : Unset links m) (k : �
   }
 
 -- What stands at a place of a list.
-at_getD : {A : Type 0} (xs : List A) (n : ℕ) (d : A) → n < length xs → at xs n ≡ Some (get_or xs n d)
-at_getD [] n d l = absurd (omega arith)
-at_getD (x ∷ xs) zero d l = refl
-at_getD (x ∷ xs) (suc n) d l = at_getD xs n d (omega arith)
+at_get_d : {A : Type 0} (xs : List A) (n : ℕ) (d : A) → n < length xs → at xs n ≡ Some (get_or xs n d)
+at_get_d [] n d l = absurd (omega arith)
+at_get_d (x ∷ xs) zero d l = refl
+at_get_d (x ∷ xs) (suc n) d l = at_get_d xs n d (omega arith)
 
 -- The delays of a plan are within their limit.
 pub delays_within : (plan : Shape) → within plan ≡ true → DelaysWithin plan.links
-delays_within plan ok k d l = subst (λ o. delay_of o ≤ 10000) (at_getD plan.links k d l) (delay_below plan ok k)
+delays_within plan ok k d l = subst (λ o. delay_of o ≤ 10000) (at_get_d plan.links k d l) (delay_below plan ok k)
 
 -- The delay of one link more.
 pub delays_next : (links : List Link) (i : ℕ) (d : Link) (table : List ℕ) → i < length links

@@ -4,7 +4,7 @@ use Rattle.model.specs.declared.link.Link.{Link}
 use Rattle.model.specs.declared.opening.Opening.{Opening}
 use Rattle.model.specs.declared.reading.PlanFault.{PlanFault}
 use Rattle.model.specs.declared.reading.PlanFault.TheVariants.{InRecord, NoProcess}
-use Rattle.text.specs.Fields.{cutLine}
+use Rattle.text.specs.Fields.{cut_line}
 use Rattle.records.specs.Adding.{ProcessReading, CargoReading, cut_taken}
 use Rattle.records.specs.declared.reading.starts.Starts.{Starts}
 
@@ -18,7 +18,7 @@ abbrev pub lines_taken : {P C : Type 0} → ProcessReading P → CargoReading C 
 lines_taken reads loads rp rl rq ro from places line [] ps ls qs os =
     (ps, ls, qs, os, cond (length (drop from.processes ps) == 0) (Err NoProcess) (Ok tt))
 lines_taken reads loads rp rl rq ro from places line (bytes ∷ more) ps ls qs os =
-    let q = cut_taken reads loads rp rl rq ro from places line (cutLine bytes) ps ls qs os in
+    let q = cut_taken reads loads rp rl rq ro from places line (cut_line bytes) ps ls qs os in
     elim q.4 [
       | Err e ↦ (q.0, q.1, q.2, q.3, Err (InRecord e))
       | Ok u ↦ lines_taken reads loads rp rl rq ro from places (line + 1) more q.0 q.1 q.2 q.3

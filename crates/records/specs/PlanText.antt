@@ -12,7 +12,7 @@ use Rattle.road.specs.declared.kind.RoadKind.{RoadKind}
 use Rattle.road.specs.declared.vehicle.Vehicle.{Vehicle}
 use Rattle.packet.specs.declared.kind.PacketKind.{PacketKind}
 use Rattle.packet.specs.declared.frame.Frame.{Frame}
-use Rattle.text.specs.Fields.{Cut, whole, broken, cutLine}
+use Rattle.text.specs.Fields.{Cut, whole, broken, cut_line}
 use Rattle.text.specs.Lines.{lines_of}
 use Rattle.records.specs.Binding.{faulty}
 use Rattle.records.specs.Words.{word_of}
@@ -101,7 +101,7 @@ after_first (Ok header) room lines x = in_family header.family room header lines
 -- The lines of a plan. Without a line there is no process.
 abbrev pub plan_lines : Rooms → List (List ℕ) → Held → PlanRead
 plan_lines room [] x = (x, Err NoProcess)
-plan_lines room (bytes ∷ lines) x = after_first (first_cut (cutLine bytes)) room lines x
+plan_lines room (bytes ∷ lines) x = after_first (first_cut (cut_line bytes)) room lines x
 
 -- A text of at most 65,536 bytes.
 abbrev pub plan_of : Rooms → List ℕ → Held → PlanRead

@@ -119,11 +119,11 @@ module _ {C P : Type 0} (net : Net C P) where
         (λ n. ap (λ f. last_arrival f (opening_on net j os)) (pd.apart.floor j l (λ e. n (sym e))) ∙ ap (last_arrival (m.floor j)) (sym (opening_there j n)))
 
     -- With the floor f, these opening events of the link j go on rising.
-    abbrev Goes_on : ℕ → List (Opening C) → ℕ → Type 0
-    Goes_on f xs j = (acc : List (Event C)) → Rising acc → newest 0 acc ≤ f → Rising (reverse_aux (opening_on net j xs) acc)
+    abbrev GoesOn : ℕ → List (Opening C) → ℕ → Type 0
+    GoesOn f xs j = (acc : List (Event C)) → Rising acc → newest 0 acc ≤ f → Rising (reverse_aux (opening_on net j xs) acc)
 
     -- Its arrival is not below the floor, so the arrivals of its link rise.
-    rising_here : Goes_on (u.floor o.link) os o.link → Goes_on (m.floor o.link) (o ∷ os) o.link
+    rising_here : GoesOn (u.floor o.link) os o.link → GoesOn (m.floor o.link) (o ∷ os) o.link
     unfolding Rising newest
     rising_here i acc r n =
         let f = put_floor in
@@ -132,9 +132,9 @@ module _ {C P : Type 0} (net : Net C P) where
         subst (λ (q : List (Event C)). Rising (reverse_aux q acc)) (sym opening_here) (i (arrival ∷ acc) (omega arith, r) (omega arith))
 
     -- And those of the other links.
-    rising_on : (j : ℕ) → j < m.count → Goes_on (u.floor j) os j → Goes_on (m.floor j) (o ∷ os) j
+    rising_on : (j : ℕ) → j < m.count → GoesOn (u.floor j) os j → GoesOn (m.floor j) (o ∷ os) j
     rising_on j l i = by_cases (ℕ_discrete o.link j)
-        (λ e. subst (λ (x : ℕ). Goes_on (m.floor x) (o ∷ os) x) e (rising_here (subst (λ (x : ℕ). Goes_on (u.floor x) os x) (sym e) i)))
+        (λ e. subst (λ (x : ℕ). GoesOn (m.floor x) (o ∷ os) x) e (rising_here (subst (λ (x : ℕ). GoesOn (u.floor x) os x) (sym e) i)))
         (λ n acc r f. subst (λ (q : List (Event C)). Rising (reverse_aux q acc)) (sym (opening_there j n)) (i acc r (rw (pd.apart.floor j l (λ e. n (sym e))) f)))
 
   -- What opening events do.

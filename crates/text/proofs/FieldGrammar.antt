@@ -5,7 +5,7 @@ use Rattle.std.proofs.ByRecursion.{All-push}
 use Rattle.std.proofs.lemmas.List.{append-nil}
 use Rattle.std.proofs.lemmas.Bool.Decides.{nat_tests}
 use Rattle.text.specs.Fields.{Step, opens, keeps, closes, ends, breaks, step}
-use Rattle.text.specs.Fields.{Cut, whole, broken, cut, cutLine, onto}
+use Rattle.text.specs.Fields.{Cut, whole, broken, cut, cut_line, onto}
 use Rattle.text.specs.Grammar.{Bare, Quotable, Written, bare, quoted}
 use Rattle.text.specs.Grammar.{Grammar, NoField, Parted, fault, last, more}
 use Rattle.text.specs.declared.fields.State.{State}
@@ -30,33 +30,33 @@ plain_keeps b h = grind (arith, nat_tests)
 quoted_keeps : (b : ℕ) → Quotable b → keeps Quoted ≡ step Quoted b
 quoted_keeps b h = grind (arith, nat_tests)
 
-read_bare : (b : ℕ) (field rest : List ℕ) → All Bare (b ∷ field) → cutLine (b ∷ field ++ rest) ≡ cut Plain (b ∷ field) rest
+read_bare : (b : ℕ) (field rest : List ℕ) → All Bare (b ∷ field) → cut_line (b ∷ field ++ rest) ≡ cut Plain (b ∷ field) rest
 read_bare b field rest h =
     by_step Start [] b (field ++ rest) (keeps Plain) (start_keeps b h.0)
     ∙ runs Plain Bare plain_keeps field (b ∷ []) rest h.1
 
-read_quoted : (field rest : List ℕ) → All Quotable field → cutLine (34 ∷ field ++ 34 ∷ rest) ≡ cut AfterQuote field rest
+read_quoted : (field rest : List ℕ) → All Quotable field → cut_line (34 ∷ field ++ 34 ∷ rest) ≡ cut AfterQuote field rest
 read_quoted field rest h = runs Quoted Quotable quoted_keeps field [] (34 ∷ rest) h
 
-last_bare : (field : List ℕ) → All Bare field → cutLine field ≡ whole (field ∷ [])
+last_bare : (field : List ℕ) → All Bare field → cut_line field ≡ whole (field ∷ [])
 last_bare [] h = refl
-last_bare (b ∷ bs) h = ap cutLine (sym (append-nil (b ∷ bs))) ∙ read_bare b bs [] h
+last_bare (b ∷ bs) h = ap cut_line (sym (append-nil (b ∷ bs))) ∙ read_bare b bs [] h
 
-more_bare : (field rest : List ℕ) → All Bare field → cutLine (field ++ 44 ∷ rest) ≡ onto field (cutLine rest)
+more_bare : (field rest : List ℕ) → All Bare field → cut_line (field ++ 44 ∷ rest) ≡ onto field (cut_line rest)
 more_bare [] rest h = refl
 more_bare (b ∷ bs) rest h = read_bare b bs (44 ∷ rest) h
 
 -- a field up to the end of the line
-read_last : {field text : List ℕ} → Written field text → cutLine text ≡ whole (field ∷ [])
+read_last : {field text : List ℕ} → Written field text → cut_line text ≡ whole (field ∷ [])
 read_last (bare {field} h) = last_bare field h
 read_last (quoted {field} h) = read_quoted field [] h
 
 -- and up to a comma
 read_more : {field text : List ℕ} (rest : List ℕ) → Written field text
-    → cutLine (text ++ 44 ∷ rest) ≡ onto field (cutLine rest)
+    → cut_line (text ++ 44 ∷ rest) ≡ onto field (cut_line rest)
 read_more rest (bare {field} h) = more_bare field rest h
 read_more rest (quoted {field} h) =
-    ap (λ x. cutLine (34 ∷ x)) (append_assoc field (34 ∷ []) (44 ∷ rest)) ∙ read_quoted field (44 ∷ rest) h
+    ap (λ x. cut_line (34 ∷ x)) (append_assoc field (34 ∷ []) (44 ∷ rest)) ∙ read_quoted field (44 ∷ rest) h
 
 -- a cut that begins with a field is not broken at the first
 no_whole : {fields : List (List ℕ)} → broken [] ≡ whole fields → ⊥
@@ -67,11 +67,11 @@ no_onto field (whole fields) e = no_whole e
 no_onto field (broken fields) e = let z : ◌≡◌ {A = ℕ} 0 1 = cc in omega arith
 
 -- so where it is, no field stands there
-faulty : (line : List ℕ) → cutLine line ≡ broken [] → Parted line (broken [])
+faulty : (line : List ℕ) → cut_line line ≡ broken [] → Parted line (broken [])
 faulty line e =
     fault (λ field text rest w. (
-      (λ p. no_whole (sym e ∙ ap cutLine p ∙ read_last w)),
-      λ p. no_onto field (cutLine rest) (sym e ∙ ap cutLine p ∙ read_more rest w),
+      (λ p. no_whole (sym e ∙ ap cut_line p ∙ read_last w)),
+      λ p. no_onto field (cut_line rest) (sym e ∙ ap cut_line p ∙ read_more rest w),
     ))
 
 -- how the field so far is written, at each state
@@ -131,7 +131,7 @@ written AfterQuote field text g n = subst (λ t. Written field t) (sym g.1) (quo
 
 -- reading the text of a field leads to a state and the field so far
 abbrev Reached : State → List ℕ → List ℕ → Type 0
-Reached s field text = (rest : List ℕ) → cutLine (text ++ rest) ≡ cut s field rest
+Reached s field text = (rest : List ℕ) → cut_line (text ++ rest) ≡ cut s field rest
 
 -- from there the bytes to come part the line
 abbrev Parts : List ℕ → Type 0
@@ -145,8 +145,8 @@ no_more Quoted field text g reached = faulty (text ++ []) (reached [])
 no_more AfterQuote field text g reached = rw append-nil (last (written AfterQuote field text g (λ q. grind arith)))
 
 module _ (b : ℕ) (bs : List ℕ) (parts : Parts bs) (s : State) (field text : List ℕ) (g : Begun s field text) (reached : Reached s field text) where
-  goes_on : (x : Step) → x ≡ step s b → (rest : List ℕ) → cutLine ((text ++ b ∷ []) ++ rest) ≡ onward x field b rest
-  goes_on x e rest = ap cutLine (append_assoc text (b ∷ []) rest) ∙ reached (b ∷ rest) ∙ by_step s field b rest x e
+  goes_on : (x : Step) → x ≡ step s b → (rest : List ℕ) → cut_line ((text ++ b ∷ []) ++ rest) ≡ onward x field b rest
+  goes_on x e rest = ap cut_line (append_assoc text (b ∷ []) rest) ∙ reached (b ∷ rest) ∙ by_step s field b rest x e
 
   regrouped : {k : Cut} → Parted ((text ++ b ∷ []) ++ bs) k → Parted (text ++ b ∷ bs) k
   regrouped {k} p = subst (λ l. Parted l k) (append_assoc text (b ∷ []) bs) p
@@ -158,7 +158,7 @@ module _ (b : ℕ) (bs : List ℕ) (parts : Parts bs) (s : State) (field text : 
   one_more closes e = regrouped (parts AfterQuote field (text ++ b ∷ []) (closed field text b s g e) (goes_on closes e))
   one_more ends e =
       let p = ended s b e in
-      subst (λ a. Parted (text ++ a ∷ bs) (onto field (cutLine bs))) (sym p.0)
+      subst (λ a. Parted (text ++ a ∷ bs) (onto field (cut_line bs))) (sym p.0)
       (more (written s field text g p.1) (parts Start [] [] (refl, refl) (λ rest. refl)))
   one_more breaks e = faulty (text ++ b ∷ bs) (reached (b ∷ bs) ∙ by_step s field b bs breaks e)
 
@@ -168,7 +168,7 @@ parts_all (b ∷ bs) = λ s field text g reached.
     subst (Parted (text ++ b ∷ bs)) (sym (by_step s field b bs (step s b) refl))
     (one_more b bs (parts_all bs) s field text g reached (step s b) refl)
 
-cut_parted : (line : List ℕ) → Parted line (cutLine line)
+cut_parted : (line : List ℕ) → Parted line (cut_line line)
 cut_parted line = parts_all line Start [] [] (refl, refl) (λ rest. refl)
 
 -- without a first field there is no other way
@@ -177,7 +177,7 @@ broken_first (last {field} {text} w) n = absurd ((n field text [] w).0 refl)
 broken_first (more {field} {text} {rest} w p) n = absurd ((n field text rest w).1 refl)
 broken_first (fault f) n = refl
 
-parted_cut : {line : List ℕ} {k : Cut} → Parted line k → k ≡ cutLine line
+parted_cut : {line : List ℕ} {k : Cut} → Parted line k → k ≡ cut_line line
 parted_cut (last w) = sym (read_last w)
 parted_cut (more {field} {text} {rest} w p) = ap (onto field) (parted_cut p) ∙ sym (read_more rest w)
 parted_cut (fault {bytes} n) = broken_first (cut_parted bytes) n

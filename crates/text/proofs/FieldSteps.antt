@@ -4,7 +4,7 @@ use Rattle.std.specs.List.{between}
 use Rattle.std.proofs.lemmas.List.Edits.{between_more}
 use Rattle.std.proofs.lemmas.List.{append-nil, at_drop_more, at_drop_all, length_push}
 use Rattle.text.specs.Fields.{Step, opens, keeps, closes, ends, breaks, step}
-use Rattle.text.specs.Fields.{Answer, Cut, whole, broken, cut, cutLine, filled, finish, found, onto}
+use Rattle.text.specs.Fields.{Answer, Cut, whole, broken, cut, cut_line, filled, finish, found, onto}
 use Rattle.text.specs.declared.fields.State.{State}
 use Rattle.text.specs.declared.fields.State.TheVariants.{Start, Plain, Quoted, AfterQuote}
 
@@ -73,20 +73,20 @@ kept_end AfterQuote t b end i e h = absurd (none_kept (eqb b 44) t e)
 
 -- the fields done and the field so far, from start to end, lead on to the line's fields
 pub record Sofar (line : List ℕ) (s : State) (done : List (List ℕ)) (start end i : ℕ) : Type 0 where
-  pub goes : joined done (cut s (between start end line) (drop i line)) ≡ cutLine line
+  pub goes : joined done (cut s (between start end line) (drop i line)) ≡ cut_line line
   pub order : start ≤ end
   pub low : end ≤ i
   pub close : Tight s end i
 
 begun : (line : List ℕ) → Sofar line Start [] 0 0 0
-begun line = record { goes = joined_none (cutLine line); order = omega arith; low = omega arith; close = refl }
+begun line = record { goes = joined_none (cut_line line); order = omega arith; low = omega arith; close = refl }
 
 none_between : (line : List ℕ) (i : ℕ) → between i i line ≡ []
 none_between line i = let e : i - i ≡ 0 = omega arith in ap (λ n. take n (drop i line)) e
 
 module _ {line : List ℕ} {s : State} {done : List (List ℕ)} {start end i : ℕ} (h : Sofar line s done start end i) (lt : i < length line) where
   goes_on : (x : Step) → x ≡ step s (get_or line i 0)
-      → joined done (onward x (between start end line) (get_or line i 0) (drop (i + 1) line)) ≡ cutLine line
+      → joined done (onward x (between start end line) (get_or line i 0) (drop (i + 1) line)) ≡ cut_line line
   goes_on x e =
       let field = between start end line in
       let turn = by_step s field (get_or line i 0) (drop (i + 1) line) x e in
@@ -119,7 +119,7 @@ module _ {line : List ℕ} {s : State} {done : List (List ℕ)} {start end i : �
     close = refl;
   }
 
-  pub failed : breaks ≡ step s (get_or line i 0) → cutLine line ≡ broken done
+  pub failed : breaks ≡ step s (get_or line i 0) → cut_line line ≡ broken done
   failed e = sym (goes_on breaks e) ∙ ap broken (append-nil done)
 
 finished : (s : State) (field : List ℕ) → (s ≡ Quoted → ⊥) → finish s field ≡ whole (field ∷ [])
@@ -130,13 +130,13 @@ finished AfterQuote field n = refl
 
 -- at the end of the line
 module _ {line : List ℕ} {s : State} {done : List (List ℕ)} {start end i : ℕ} (h : Sofar line s done start end i) (le : length line ≤ i) where
-  at_end : joined done (finish s (between start end line)) ≡ cutLine line
+  at_end : joined done (finish s (between start end line)) ≡ cut_line line
   at_end = sym (ap (joined done) (at_drop_all (cut s (between start end line)) line i le)) ∙ h.goes
 
-  pub unclosed : s ≡ Quoted → cutLine line ≡ broken done
+  pub unclosed : s ≡ Quoted → cut_line line ≡ broken done
   unclosed e = sym at_end ∙ ap (λ t. joined done (finish t (between start end line))) e ∙ ap broken (append-nil done)
 
-  pub completed : (s ≡ Quoted → ⊥) → cutLine line ≡ whole (done ++ between start end line ∷ [])
+  pub completed : (s ≡ Quoted → ⊥) → cut_line line ≡ whole (done ++ between start end line ∷ [])
   completed n = sym at_end ∙ ap (joined done) (finished s (between start end line) n)
 
 filled_none : (places : List (List ℕ)) → filled places [] ≡ places
@@ -195,15 +195,15 @@ module _ {line : List ℕ} {s : State} {before out : List (List ℕ)} {count sta
   }
 
   -- what is left at a malformed field
-  pub stopped : cutLine line ≡ broken h.done
-      → Answer (cutLine line) (Err (record { field = count + 1 })) × (out ≡ filled before (found (cutLine line)))
+  pub stopped : cut_line line ≡ broken h.done
+      → Answer (cut_line line) (Err (record { field = count + 1 })) × (out ≡ filled before (found (cut_line line)))
   stopped e =
       let same = ap found e in
       ((e ∙ ap broken (sym same), omega (arith, ap length same, h.counted)), h.holds ∙ ap (filled before) (sym same))
 
   -- what is left once the last field stands at its place
-  pub finished_at : {out' : List (List ℕ)} (f : List ℕ) → cutLine line ≡ whole (h.done ++ f ∷ []) → out' ≡ set out count f
-      → Answer (cutLine line) (Ok (count + 1)) × (out' ≡ filled before (found (cutLine line)))
+  pub finished_at : {out' : List (List ℕ)} (f : List ℕ) → cut_line line ≡ whole (h.done ++ f ∷ []) → out' ≡ set out count f
+      → Answer (cut_line line) (Ok (count + 1)) × (out' ≡ filled before (found (cut_line line)))
   finished_at f e w =
       let same = ap found e in (
         (e ∙ ap whole (sym same), omega (arith, ap length same, length_push h.done f, h.counted)),

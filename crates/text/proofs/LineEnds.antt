@@ -9,13 +9,13 @@ abbrev pub Clear : List ℕ → ℕ → Type 0
 Clear xs i = (k : ℕ) → k < i → get_or xs k 0 ≡ 10 → ⊥
 
 -- what stands before an LF, without a CR at its end
-abbrev withoutCr : List ℕ → List ℕ
-withoutCr [] = []
-withoutCr (b ∷ []) = cond (eqb b 13) [] (b ∷ [])
-withoutCr (b ∷ c ∷ bs) = b ∷ withoutCr (c ∷ bs)
+abbrev without_cr : List ℕ → List ℕ
+without_cr [] = []
+without_cr (b ∷ []) = cond (eqb b 13) [] (b ∷ [])
+without_cr (b ∷ c ∷ bs) = b ∷ without_cr (c ∷ bs)
 
 -- nothing but a CR is taken off
-stripped : (xs : List ℕ) → (xs ≡ withoutCr xs) ⊎ (xs ≡ withoutCr xs ++ 13 ∷ [])
+stripped : (xs : List ℕ) → (xs ≡ without_cr xs) ⊎ (xs ≡ without_cr xs ++ 13 ∷ [])
 stripped [] = inl refl
 stripped (b ∷ []) =
     ⊎_elim (λ e. let t : eqb b 13 ≡ true = eq-eqb b 13 e in inr (rw t (ap (λ x. x ∷ []) e)))
@@ -24,17 +24,17 @@ stripped (b ∷ []) =
 stripped (b ∷ c ∷ bs) = ⊎_elim (λ e. inl (ap (λ x. b ∷ x) e)) (λ e. inr (ap (λ x. b ∷ x) e)) (stripped (c ∷ bs))
 
 -- and a CR is
-without_cr : (xs : List ℕ) → withoutCr (xs ++ 13 ∷ []) ≡ xs
-without_cr [] = refl
-without_cr (a ∷ []) = refl
-without_cr (a ∷ b ∷ bs) = ap (λ x. a ∷ x) (without_cr (b ∷ bs))
+without_cr_lem : (xs : List ℕ) → without_cr (xs ++ 13 ∷ []) ≡ xs
+without_cr_lem [] = refl
+without_cr_lem (a ∷ []) = refl
+without_cr_lem (a ∷ b ∷ bs) = ap (λ x. a ∷ x) (without_cr_lem (b ∷ bs))
 
 -- the same in the words of `strip_suffix`
 pub strips : (front : Bor (List ℕ)) (r : Option (Bor (List ℕ)))
     → MatchOption r ((f : List ℕ) → front.now ≡ f ++ 13 ∷ [] → ⊥) (λ x. front.now ≡ x.now ++ 13 ∷ [])
-    → (unwrap_or r front).now ≡ withoutCr front.now
+    → (unwrap_or r front).now ≡ without_cr front.now
 strips front None h = ⊎_elim (λ e. e) (λ e. absurd (h _ e)) (stripped front.now)
-strips front (Some x) h = sym (ap withoutCr h ∙ without_cr x.now)
+strips front (Some x) h = sym (ap without_cr h ∙ without_cr_lem x.now)
 
 -- a byte that ends no line is one more byte of the first
 more_lines : (b c : ℕ) (bs : List ℕ) → (b ≡ 10 → ⊥) → (c ≡ 10 → ⊥) → lines_of (b ∷ c ∷ bs) ≡ onto b (lines_of (c ∷ bs))
@@ -45,7 +45,7 @@ more_lines b c bs n m =
     ap (λ v. cond v ([] ∷ ls) (cond (eqb b 13 && eqb c 10) ls (onto b ls))) f ∙ ap (λ v. cond v ls (onto b ls)) g
 
 lines_at_lf : (front rest : List ℕ) → Clear front (length front)
-    → lines_of (front ++ 10 ∷ rest) ≡ withoutCr front ∷ lines_of rest
+    → lines_of (front ++ 10 ∷ rest) ≡ without_cr front ∷ lines_of rest
 lines_at_lf [] rest clear = refl
 lines_at_lf (b ∷ []) rest clear =
     let f : eqb b 10 ≡ false = ne_eqb b 10 (clear 0 (omega arith)) in
@@ -68,7 +68,7 @@ lines_last (b ∷ c ∷ bs) some clear =
 
 -- a text up to its first LF, and what follows
 at_lf : {text line : List ℕ} (front : List ℕ) {rest : List ℕ}
-    → text ≡ front ++ 10 ∷ rest → Clear front (length front) → line ≡ withoutCr front → FirstLine text line rest
+    → text ≡ front ++ 10 ∷ rest → Clear front (length front) → line ≡ without_cr front → FirstLine text line rest
 at_lf {text} {line} front {rest} whole clear w = record {
   lines = ap lines_of whole ∙ lines_at_lf front rest clear ∙ ap (λ x. x ∷ lines_of rest) (sym w);
   split = ⊎_elim (λ e. inl (whole ∙ ap (λ x. x ++ 10 ∷ rest) (e ∙ sym w)))
@@ -81,7 +81,7 @@ at_lf {text} {line} front {rest} whole clear w = record {
 
 -- the same where the LF stands at i
 pub split_at_lf : (text : List ℕ) (i : ℕ) (line : List ℕ)
-    → i < length text → Clear text i → get_or text i 0 ≡ 10 → line ≡ withoutCr (take (i - 0) text)
+    → i < length text → Clear text i → get_or text i 0 ≡ 10 → line ≡ without_cr (take (i - 0) text)
     → FirstLine text line (take (length text - (i + 1)) (drop (i + 1) text))
 split_at_lf text i line lt clear e w =
     let front : take (i - 0) text ≡ take i text = ap (λ k. take k text) (omega arith) in
@@ -90,7 +90,7 @@ split_at_lf text i line lt clear e w =
     let within : length (take i text) ≡ i = length-take-le i text (omega arith) in
     let none : Clear (take i text) (length (take i text)) = λ k l z.
     let l' : k < i = omega arith in clear k l' (sym (get_or-take i text k 0 l') ∙ z) in
-    rw take_rest (at_lf (take i text) whole none (w ∙ ap withoutCr front))
+    rw take_rest (at_lf (take i text) whole none (w ∙ ap without_cr front))
 
 -- a text without LF is one line
 pub split_last : (text : List ℕ) → 0 < length text → Clear text (length text)

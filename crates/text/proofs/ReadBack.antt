@@ -6,40 +6,40 @@ use Rattle.std.proofs.lemmas.Fmt.{first_decimal, decimal_digit, decimal_nonempty
 use Rattle.std.proofs.lemmas.Slice.Eq.{bytes_eq-Decides}
 use Rattle.std.proofs.lemmas.List.{at_drop_more, at_drop_all}
 use Rattle.std.proofs.lemmas.Str.Parse.{IsNumeralModel, numerals_by_fold, tells_all_ascii_digits}
-use Rattle.std.proofs.lemmas.Bool.{and_left, and_right, and_parts, cases_lt, eq-eqb, ne_eqb, not_true, le-ltb, lt-ltb, ltb-true}
-use Rattle.text.specs.Decimal.{ReadsBack, digits, number_of, unpadded, valueFrom}
+use Rattle.std.proofs.lemmas.Bool.{and_left, and_right, and_parts, cases_lt, eq-eqb, ne_eqb, not-true, le-ltb, lt-ltb, ltb-true}
+use Rattle.text.specs.Decimal.{ReadsBack, digits, number_of, unpadded, value_from}
 use Rattle.text.proofs.TenthPart.{digits_decimal, tenth_part}
 
 -- the digits read before i make v
 pub record Sofar (bs : List ℕ) (v i : ℕ) : Type 0 where
-  pub worth : valueFrom v (drop i bs) ≡ valueFrom 0 bs
+  pub worth : value_from v (drop i bs) ≡ value_from 0 bs
   pub onward : all_ascii_digits (drop i bs) ≡ all_ascii_digits bs
   pub small : v < 2 ^ 32
 
-grows : (v : ℕ) (bs : List ℕ) → v ≤ valueFrom v bs
+grows : (v : ℕ) (bs : List ℕ) → v ≤ value_from v bs
 grows v [] = omega arith
 grows v (b ∷ bs) = omega (arith, grows (v * 10 + (b - 48)) bs)
 
 pub padded : (bs : List ℕ) → unpadded bs ≡ false → None ≡ number_of bs
 unfolding number_of
-padded bs u = ap (λ t. cond t (Some (valueFrom 0 bs)) None) (sym (and_left (unpadded bs) _ u))
+padded bs u = ap (λ t. cond t (Some (value_from 0 bs)) None) (sym (and_left (unpadded bs) _ u))
 
 no_digits : (bs : List ℕ) → all_ascii_digits bs ≡ false → None ≡ number_of bs
 unfolding number_of
 no_digits bs d =
-    ap (λ t. cond t (Some (valueFrom 0 bs)) None) (sym (and_right (unpadded bs) _ (and_left (all_ascii_digits bs) _ d)))
+    ap (λ t. cond t (Some (value_from 0 bs)) None) (sym (and_right (unpadded bs) _ (and_left (all_ascii_digits bs) _ d)))
 
-too_large : (bs : List ℕ) → 2 ^ 32 ≤ valueFrom 0 bs → None ≡ number_of bs
+too_large : (bs : List ℕ) → 2 ^ 32 ≤ value_from 0 bs → None ≡ number_of bs
 unfolding number_of
 too_large bs l =
-    let big : ltb (valueFrom 0 bs) 4294967296 ≡ false = le-ltb _ _ l in
-    ap (λ t. cond t (Some (valueFrom 0 bs)) None) (sym (and_right (unpadded bs) _ (and_right (all_ascii_digits bs) _ big)))
+    let big : ltb (value_from 0 bs) 4294967296 ≡ false = le-ltb _ _ l in
+    ap (λ t. cond t (Some (value_from 0 bs)) None) (sym (and_right (unpadded bs) _ (and_right (all_ascii_digits bs) _ big)))
 
-read : (bs : List ℕ) → unpadded bs ≡ true → all_ascii_digits bs ≡ true → valueFrom 0 bs < 2 ^ 32
-    → number_of bs ≡ Some (valueFrom 0 bs)
+read : (bs : List ℕ) → unpadded bs ≡ true → all_ascii_digits bs ≡ true → value_from 0 bs < 2 ^ 32
+    → number_of bs ≡ Some (value_from 0 bs)
 unfolding number_of
 read bs u d l =
-    let small : ltb (valueFrom 0 bs) 4294967296 ≡ true = lt-ltb _ _ l in
+    let small : ltb (value_from 0 bs) 4294967296 ≡ true = lt-ltb _ _ l in
     simp (u, d, small)
 
 module _ (bs : List ℕ) (v i : ℕ) (h : Sofar bs v i) where
@@ -47,8 +47,8 @@ module _ (bs : List ℕ) (v i : ℕ) (h : Sofar bs v i) where
   at_no_digit lt n =
       no_digits bs (sym h.onward ∙ at_drop_more all_ascii_digits bs i 0 lt ∙ and_left _ (all_ascii_digits (drop (i + 1) bs)) n)
 
-  one_more : i < length bs → (w : ℕ) → w ≡ v * 10 + (get_or bs i 0 - 48) → valueFrom w (drop (i + 1) bs) ≡ valueFrom 0 bs
-  one_more lt w e = ap (λ k. valueFrom k (drop (i + 1) bs)) e ∙ sym (at_drop_more (valueFrom v) bs i 0 lt) ∙ h.worth
+  one_more : i < length bs → (w : ℕ) → w ≡ v * 10 + (get_or bs i 0 - 48) → value_from w (drop (i + 1) bs) ≡ value_from 0 bs
+  one_more lt w e = ap (λ k. value_from k (drop (i + 1) bs)) e ∙ sym (at_drop_more (value_from v) bs i 0 lt) ∙ h.worth
 
   pub past_limit : i < length bs → (w : ℕ) → w ≡ v * 10 + (get_or bs i 0 - 48) → 2 ^ 32 ≤ w → None ≡ number_of bs
   past_limit lt w e l = too_large bs (omega (arith, one_more lt w e, grows w (drop (i + 1) bs)))
@@ -63,12 +63,12 @@ module _ (bs : List ℕ) (v i : ℕ) (h : Sofar bs v i) where
 
   pub at_end : length bs ≤ i → unpadded bs ≡ true → Some v ≡ number_of bs
   at_end le u =
-      let worth : v ≡ valueFrom 0 bs = sym (at_drop_all (valueFrom v) bs i le) ∙ h.worth in
+      let worth : v ≡ value_from 0 bs = sym (at_drop_all (value_from v) bs i le) ∙ h.worth in
       let d : all_ascii_digits bs ≡ true = sym h.onward ∙ at_drop_all all_ascii_digits bs i le in
       ap Some worth ∙ sym (read bs u d (omega (arith, h.small)))
 
-own : IsNumeralModel (λ ds. all_ascii_digits ds ≡ true) (valueFrom 0)
-own = numerals_by_fold _ tells_all_ascii_digits valueFrom (search rules)
+own : IsNumeralModel (λ ds. all_ascii_digits ds ≡ true) (value_from 0)
+own = numerals_by_fold _ tells_all_ascii_digits value_from (search rules)
 
 unpadded_from : (ds : List ℕ) → 0 < length ds → (get_or ds 0 0 ≡ 48 → length ds ≡ 1) → unpadded ds ≡ true
 unpadded_from [] some z = absurd (omega arith)
@@ -80,7 +80,7 @@ unpadded_parts : (ds : List ℕ) → unpadded ds ≡ true → (0 < length ds) ×
 unpadded_parts [] u = let z : ◌≡◌ {A = ℕ} 0 1 = cc in absurd (omega arith)
 unpadded_parts (d ∷ []) u = (omega arith, λ z. refl)
 unpadded_parts (d ∷ e ∷ ds) u =
-    (omega arith, λ z. let z' : ◌≡◌ {A = ℕ} 0 1 = cc (eq-eqb d 48 z, not_true _ u) in absurd (omega arith))
+    (omega arith, λ z. let z' : ◌≡◌ {A = ℕ} 0 1 = cc (eq-eqb d 48 z, not-true _ u) in absurd (omega arith))
 
 module _ (n : ℕ) (l : n < 2 ^ 64) where
   digits_some : 0 < length (digits n)
@@ -97,7 +97,7 @@ module _ (n : ℕ) (l : n < 2 ^ 64) where
   digits_digits : all_ascii_digits (digits n) ≡ true
   digits_digits = rw (digits_decimal n l) (decimal-digits own n l)
 
-  digits_worth : valueFrom 0 (digits n) ≡ n
+  digits_worth : value_from 0 (digits n) ≡ n
   digits_worth = rw (digits_decimal n l) (digits_value-decimal own n l)
 
 read_digits : (n : ℕ) → n < 2 ^ 32 → number_of (digits n) ≡ Some n
@@ -116,7 +116,7 @@ only_digits bs n e =
     let q = and_parts (unpadded bs) _ p.0 in
     let r = and_parts (all_ascii_digits bs) _ q.1 in
     let u = unpadded_parts bs q.0 in
-    let small : valueFrom 0 bs < 2 ^ 64 = omega (arith, ltb-true _ _ r.1) in
+    let small : value_from 0 bs < 2 ^ 64 = omega (arith, ltb-true _ _ r.1) in
     sym (decimal-digits_value own bs r.0 u.0 u.1 small) ∙ sym (digits_decimal _ small) ∙ ap digits p.1
 
 pub reads_back : ReadsBack

@@ -2,10 +2,10 @@
 use Rattle.std.proofs.Common.{◌≡◌, ℕ, zero, suc, ◌+◌, ◌/◌, ◌%◌, ◌^◌, ◌<◌, ◌≤◌, true, false, cond, eqb, List, [], ◌∷◌, ◌++◌, length, decimal, sym, refl, ap, ◌∙◌, ⊎_elim, arith, length-append}
 use Rattle.std.proofs.lemmas.Fmt.{AppendsLastDigit, decimal_from_appends, length-decimal-le, length-decimal-le_succ}
 use Rattle.std.proofs.lemmas.Bool.{eq-eqb, ne_eqb, cases_eq}
-use Rattle.text.specs.Decimal.{digits, digitsBy}
+use Rattle.text.specs.Decimal.{digits, digits_by}
 
 -- a bound above n changes nothing
-same_bound : (j k n : ℕ) → n < j → n < k → digitsBy j n ≡ digitsBy k n
+same_bound : (j k n : ℕ) → n < j → n < k → digits_by j n ≡ digits_by k n
 same_bound zero k n l m = absurd (omega arith)
 same_bound (suc j) zero n l m = absurd (omega arith)
 same_bound (suc j) (suc k) n l m =
@@ -35,7 +35,7 @@ tenths_some n l = let t : eqb (n / 10) 0 ≡ false = ne_eqb _ 0 (omega arith) in
 pub length_more : (n : ℕ) → length (digits n) ≡ length (tenths n) + 1
 length_more n = ap length (tenth_part n) ∙ length-append (tenths n) ((48 + n % 10) ∷ [])
 
-spells : AppendsLastDigit digitsBy
+spells : AppendsLastDigit digits_by
 spells = record {
   one = λ k n h. let z : n / 10 ≡ 0 = omega arith in let m : n % 10 ≡ n = omega arith in simp (z, m);
   more = λ k n h. let z : eqb (n / 10) 0 ≡ false = ne_eqb _ 0 (omega arith) in simp z;
@@ -44,7 +44,7 @@ spells = record {
 -- the digits are what std writes of a number
 pub digits_decimal : (n : ℕ) → n < 2 ^ 64 → digits n ≡ decimal n
 unfolding digits
-digits_decimal n h = decimal_from_appends digitsBy spells (suc n) n h (omega (arith, length-decimal-le_succ n h))
+digits_decimal n h = decimal_from_appends digits_by spells (suc n) n h (omega (arith, length-decimal-le_succ n h))
 
 -- a number below 10 ^ k has at most k digits
 pub few_digits : (k n : ℕ) → 0 < k → n < 10 ^ k → n < 2 ^ 64 → length (digits n) ≤ k

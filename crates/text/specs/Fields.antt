@@ -58,8 +58,8 @@ cut s field (b ∷ bs) =
     ]
 
 -- a line is cut from the start of its first field on
-abbrev pub cutLine : List ℕ → Cut
-cutLine line = cut Start [] line
+abbrev pub cut_line : List ℕ → Cut
+cut_line line = cut Start [] line
 
 -- the answer is how many fields there are, or the number of the first malformed one, counted from 1
 abbrev pub Answer : Cut → Result ℕ Malformed → Type 0

@@ -1,7 +1,7 @@
 -- What the fields of a line are, said without a reader: 34 is the quote, 44 the comma.
 use Rattle.std.specs.Prelude.{◌≡◌, ℕ, ◌≤◌, List, [], ◌∷◌, ◌++◌, ◌≢◌}
 use Rattle.std.specs.List.{AllByRecursion as All}
-use Rattle.text.specs.Fields.{Cut, whole, broken, cutLine, onto}
+use Rattle.text.specs.Fields.{Cut, whole, broken, cut_line, onto}
 
 -- a byte that may stand in quotes
 abbrev pub Quotable : ℕ → Type 0
@@ -29,5 +29,5 @@ pub data Parted : List ℕ → Cut → Type 0 where
 
 -- a line is parted as it is cut, and in no other way
 pub record Grammar (line : List ℕ) : Type 0 where
-  pub parted : Parted line (cutLine line)
-  pub only : (k : Cut) → Parted line k → k ≡ cutLine line
+  pub parted : Parted line (cut_line line)
+  pub only : (k : Cut) → Parted line k → k ≡ cut_line line

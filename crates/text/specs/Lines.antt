@@ -2,9 +2,9 @@
 use Rattle.std.specs.Prelude.{◌≡◌, ℕ, ◌<◌, Bool, true, false, cond, ◌&&◌, ◌⊎◌, List, [], ◌∷◌, ◌++◌, length, ◌==◌}
 
 -- whether the bytes begin with LF
-abbrev pub beginsLf : List ℕ → Bool
-beginsLf [] = false
-beginsLf (b ∷ bs) = b == 10
+abbrev pub begins_lf : List ℕ → Bool
+begins_lf [] = false
+begins_lf (b ∷ bs) = b == 10
 
 -- one more byte at the front of the first line
 abbrev pub onto : ℕ → List (List ℕ) → List (List ℕ)
@@ -14,7 +14,7 @@ onto b (line ∷ lines) = (b ∷ line) ∷ lines
 -- each line ends with CR LF or LF, and the last end may be missing; a CR without LF is a byte of its line
 abbrev pub lines_of : List ℕ → List (List ℕ)
 lines_of [] = []
-lines_of (b ∷ bs) = cond (b == 10) ([] ∷ lines_of bs) (cond (b == 13 && beginsLf bs) (lines_of bs) (onto b (lines_of bs)))
+lines_of (b ∷ bs) = cond (b == 10) ([] ∷ lines_of bs) (cond (b == 13 && begins_lf bs) (lines_of bs) (onto b (lines_of bs)))
 
 -- a text is its first line, that line's end and the rest, or one line without an end
 abbrev pub Split : List ℕ → List ℕ → List ℕ → Type 0

@@ -1,6 +1,6 @@
 // The fields of a line.
 ghost use Rattle.std.specs.Prelude.{◌≡◌, map, slice_set};
-ghost use Rattle.text.specs.Fields.{Answer, cutLine, filled, found};
+ghost use Rattle.text.specs.Fields.{Answer, cut_line, filled, found};
 ghost use Rattle.text.specs.Grammar.{Grammar};
 
 // A quote misplaced or unclosed, or a byte outside 32 to 126, in the field of this number, counted from 1.
@@ -21,8 +21,8 @@ enum State {
 // Cuts a line at its commas into fields, of which each may stand in quotes, and answers how many
 // there are. The fields are put into `out` as far as there is room.
 pub fn cut_fields<'a>(line: &'a [u8], out: &mut [&'a [u8]]) -> Result<usize, Malformed>
-    ensures answer { Answer (cutLine line.now) result }
-    ensures places { map (λ x. x.now) out.new ≡ filled (map (λ x. x.now) out.old) (found (cutLine line.now)) }
+    ensures answer { Answer (cut_line line.now) result }
+    ensures places { map (λ x. x.now) out.new ≡ filled (map (λ x. x.now) out.old) (found (cut_line line.now)) }
     ensures grammar { Grammar line.now }
 {
     let mut count = 0;

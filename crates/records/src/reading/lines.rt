@@ -1,6 +1,6 @@
 //! The lines of a plan behind the net record.
 ghost use Rattle.std.specs.Prelude.{◌≡◌, ◌≤◌, length, vec_capacity};
-ghost use Rattle.text.specs.Fields.{cutLine};
+ghost use Rattle.text.specs.Fields.{cut_line};
 ghost use Rattle.text.specs.Lines.{lines_of};
 ghost use Rattle.records.specs.Adding.{Read, cut_taken};
 ghost use Rattle.records.specs.Lines.{AllRead, lines_taken};
@@ -27,7 +27,7 @@ fn take_line<C: Copy, P: ProcessKind<C>>(
     openings: &mut Vec<Opening<C>>,
 ) -> Result<(), RecordFault>
     requires { length bytes.now ≤ 65536 }
-    ensures items { ◌≡◌ {A = Read P C} (processes.new.items, links.new.items, quotas.new.items, openings.new.items, result) (cut_taken P.ProcessKind.processed P.ProcessKind.loaded (vec_capacity processes.old) (vec_capacity links.old) (vec_capacity quotas.old) (vec_capacity openings.old) starts places line (cutLine bytes.now) processes.old.items links.old.items quotas.old.items openings.old.items) }
+    ensures items { ◌≡◌ {A = Read P C} (processes.new.items, links.new.items, quotas.new.items, openings.new.items, result) (cut_taken P.ProcessKind.processed P.ProcessKind.loaded (vec_capacity processes.old) (vec_capacity links.old) (vec_capacity quotas.old) (vec_capacity openings.old) starts places line (cut_line bytes.now) processes.old.items links.old.items quotas.old.items openings.old.items) }
     ensures processes { vec_capacity processes.new ≡ vec_capacity processes.old }
     ensures links { vec_capacity links.new ≡ vec_capacity links.old }
     ensures quotas { vec_capacity quotas.new ≡ vec_capacity quotas.old }

@@ -1,6 +1,6 @@
 //! A whole plan.
 ghost use Rattle.std.specs.Prelude.{◌≡◌, ◌≤◌, List, map, length, vec_capacity};
-ghost use Rattle.text.specs.Fields.{cutLine};
+ghost use Rattle.text.specs.Fields.{cut_line};
 ghost use Rattle.text.specs.Lines.{lines_of};
 ghost use Rattle.records.specs.PlanText.{FamilyRead, first_fields, first_cut, family_taken, PlanRead, plan_of};
 
@@ -36,7 +36,7 @@ fn read_first_fields(fields: &[&[u8]]) -> Result<Net, RecordFault>
 // The net record, on the first line.
 fn read_first(bytes: &[u8]) -> Result<Net, RecordFault>
     requires { length bytes.now ≤ 65536 }
-    ensures { result ≡ first_cut (cutLine bytes.now) }
+    ensures { result ≡ first_cut (cut_line bytes.now) }
 {
     let empty = &bytes[0..0];
     let mut fields = [empty; 9];

@@ -4,4 +4,4 @@ use Rattle.text.proofs.bytes.same.Goals as goal
 use Rattle.std.proofs.lemmas.Bool.Decides.{Decides-eqb}
 
 pub returns : goal.returns
-returns c = let d = slice_eq-Decides Decides-eqb _ _ _ c.eq.ensures in search (rules, bytes_eq-Decides)
+returns c = let d = slice_eq-Decides Decides-eqb c.args.a.now c.args.b.now _ c.eq.ensures in search (rules, bytes_eq-Decides)

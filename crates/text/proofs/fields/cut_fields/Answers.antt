@@ -11,8 +11,8 @@ use Rattle.text.proofs.fields.cut_fields.Goals.{in-Start-eq34, in-Quoted-eq34, i
 pub loop-i-init : goal.loop-i-init
 loop-i-init c = at_start _ _
 
-pub returns-in-default : goal.returns-in-default
-returns-in-default c =
+pub returns-in_default : goal.returns-in_default
+returns-in_default c =
     let h = c.loop-i.invariant in
     let e : breaks ≡ step c.loop-i.state (get_or c.args.line.now c.loop-i.i 0) = search rules in
     let p = stopped h (failed h.sofar c.loop-i-test.true e) in
@@ -54,6 +54,6 @@ pub returns : goal.returns
 returns c =
     let h = c.loop-i.invariant in
     let f = between c.loop-i.start c.loop-i.end c.args.line.now in
-    let e = completed h.sofar c.loop-i-test.false c.in-default-state.not-Quoted in
+    let e = completed h.sofar c.loop-i-test.false c.in_default-state.not-Quoted in
     let p = finished_at h f e c.place-2.ensures in
     record { answer = p.0; places = p.1; grammar = grammar _ }

@@ -4,6 +4,6 @@ use Rattle.text.proofs.numbers.spells.Goals as goal
 
 pub returns : goal.returns
 returns c = record {
-  value = spelled _ c.args.n (omega arith) _ _ c.read-number.ensures c.eq.ensures;
+  value = spelled _ c.args.n (omega arith) _ _ c.read_number.ensures c.eq.ensures;
   law = reads_back;
 }

@@ -1,5 +1,5 @@
 use Rattle.std.proofs.Common.{◌≡◌, ℕ, List, [], length, replicate, vec_items, vec_capacity, sym, refl, ap, ◌∙◌, arith}
-use Rattle.text.specs.Fields.{Cut, cutLine, found}
+use Rattle.text.specs.Fields.{Cut, cut_line, found}
 use Rattle.records.specs.Adding.{record_taken, cut_taken}
 use Rattle.records.proofs.FewFields.{few_fields, nine_held}
 use Rattle.records.proofs.reading.lines.take_line.Goals as goal
@@ -10,7 +10,7 @@ overflow-cast-field g c =
 
 pub returns-then-count-eq9 : goal.returns-then-count-eq9
 returns-then-count-eq9 g c =
-    let k = cutLine c.args.bytes.now in
+    let k = cut_line c.args.bytes.now in
     let cuts = c.in-Ok.ensures in
     let n : length (found k) ≡ 9 = sym cuts.answer.1 ∙ c.if-count-eq9.true in
     let t = c.take-record.ensures in

@@ -1,5 +1,5 @@
 use Rattle.std.proofs.Common.{◌≡◌, ℕ, List, vec_items, vec_capacity, sym, ap, ◌∙◌, arith}
-use Rattle.text.specs.Fields.{cutLine}
+use Rattle.text.specs.Fields.{cut_line}
 use Rattle.text.specs.Lines.{lines_of}
 use Rattle.records.specs.Adding.{cut_taken}
 use Rattle.records.specs.Lines.{lines_taken}
@@ -17,7 +17,7 @@ loop-record-preserved g c =
     let t = c.in-ok-take-line.ensures in
     let f = c.in-Some.ensures in
     let e = t.items ∙ (λ i. cut_taken g.P.ProcessKind.processed g.P.ProcessKind.loaded (h.1 i) (h.2 i) (h.3 i) (h.4 i)
-    c.args.starts c.args.places c.loop-record.line (cutLine c.in-Some.record.now)
+    c.args.starts c.args.places c.loop-record.line (cut_line c.in-Some.record.now)
     (vec_items c.loop-record.processes) (vec_items c.loop-record.links) (vec_items c.loop-record.quotas) (vec_items c.loop-record.openings)) in (
       one_line g.P.ProcessKind.processed g.P.ProcessKind.loaded
           (vec_capacity c.args.processes.now) (vec_capacity c.args.links.now) (vec_capacity c.args.quotas.now) (vec_capacity c.args.openings.now)

@@ -1,5 +1,5 @@
 use Rattle.std.proofs.Common.{◌≡◌, [], length, replicate, sym, refl, ap, ◌∙◌, arith}
-use Rattle.text.specs.Fields.{cutLine, found}
+use Rattle.text.specs.Fields.{cut_line, found}
 use Rattle.records.specs.PlanText.{first_fields, first_cut}
 use Rattle.records.proofs.FewFields.{few_fields, nine_held}
 use Rattle.records.proofs.reading.plan.read_first.Goals as goal
@@ -9,7 +9,7 @@ overflow-cast-field c = omega (arith, c.in-Err.ensures.answer.1, few_fields c.in
 
 pub returns-then-count-eq9 : goal.returns-then-count-eq9
 returns-then-count-eq9 c =
-    let k = cutLine c.args.bytes.now in
+    let k = cut_line c.args.bytes.now in
     let cuts = c.in-Ok.ensures in
     let n : length (found k) ≡ 9 = sym cuts.answer.1 ∙ c.if-count-eq9.true in
     c.read-first-fields.ensures
