@@ -4,7 +4,7 @@ use Rattle.road.specs.Limits.{signal_within}
 use Rattle.road.proofs.SameSignal.{same_signal}
 use Rattle.road.proofs.signal.Signal.new.Goals as goal
 
-pub returns-then-within-limits : goal.returns-then-within-limits
-returns-then-within-limits c =
+pub returns-then-within_limits : goal.returns-then-within_limits
+returns-then-within_limits c =
     let ok : signal_within c.args.settings ≡ true = search rules in
     some_made _ _ _ ok (same_signal _ _ (search rules) (search rules))
