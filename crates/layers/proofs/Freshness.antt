@@ -2,7 +2,7 @@
 use Rattle.std.proofs.Common.{◌≡◌, ℕ, ◌<◌, Bool, true, false, eqb, length, Ok, sym, refl, ◌∙◌}
 use Rattle.std.proofs.lemmas.List.{nil_from_length}
 use Rattle.std.proofs.lemmas.Bool.{eqb-true, eqb-false}
-use Rattle.model.specs.Pile.{Pile, Fresh}
+use Rattle.model.specs.Pile.{Pile}
 use Rattle.layers.specs.Layer.{Freshness}
 
 module _ {C : Type 0} (m : Pile C) (k waits floor delay : ℕ) (there : k < m.count) (many : waits ≡ length (m.waiting k))

@@ -1,5 +1,5 @@
 -- What the layers share: the faults that they pass on, how they begin, and how they take a setting.
-use Rattle.std.specs.Prelude.{◌≡◌, ℕ, ◌<◌, ◌≤◌, Bool, true, false, List, ◌∷◌, set, Ok, Err, Option, Result, slice_set}
+use Rattle.std.specs.Prelude.{◌≡◌, ℕ, ◌<◌, ◌≤◌, Bool, true, false, List, ◌∷◌, Ok, Err, Option, Result, slice_set}
 use Rattle.model.specs.declared.fault.LinkFault.{LinkFault}
 use Rattle.model.specs.declared.fault.LinkFault.TheVariants as link
 use Rattle.model.specs.declared.fault.SettingFault.{SettingFault}

@@ -4,8 +4,8 @@ use Rattle.layers.proofs.Delaying.{fresh_below}
 use Rattle.layers.proofs.delay.Delay.set.Goals as goal
 use Rattle.layers.proofs.delay.Delay.set.Goals.{then-not-branch-via-then-not-branch, then-not-branch-via-else-not-branch+then-delay-below}
 
-pub overflow-sub-below : goal.overflow-sub-below
-overflow-sub-below g c =
+pub overflow_sub-below : goal.overflow_sub-below
+overflow_sub-below g c =
     let d = c.in-Ok.ensures in
     omega (arith, d.1, (g.L.Links.sound c.args.self.now.below).near c.args.link d.0)
 
@@ -20,7 +20,7 @@ returns-then-not-branch g c =
         d.0,
         (λ suits. elim c.then-not-branch.branch [
           | then-not-branch-via-then-not-branch w ↦
-              (rw w.if-not-branch.true at c.in-ok-is-fresh.ensures).1
+              (rw w.if-not-branch.true at c.in_ok-is_fresh.ensures).1
               (fresh_below m s.extra c.args.link suits.fresh)
           | then-not-branch-via-else-not-branch+then-delay-below w ↦
               omega (arith, w.if-delay-below.true, suits.near, d.1)

@@ -13,6 +13,6 @@ pub returns-in-Err : goal.returns-in-Err
 returns-in-Err g c =
     let s = c.args.self.now in
     let h = c.in-Err.ensures in
-    rw c.passed-on.ensures
+    rw c.passed_on.ensures
     (put_refused (g.L.Links.meaning s.below) s.extra c.args.link (g.L.Links.meaning c.put.new.self)
     c.args.time c.in-Err.fault h.0 h.1)

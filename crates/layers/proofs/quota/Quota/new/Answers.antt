@@ -4,7 +4,7 @@ use Rattle.layers.proofs.quota.Quota.new.Goals as goal
 
 pub returns : goal.returns
 returns g c = record {
-  held = (refl, c.largest-quotas.ensures);
-  meaning = rw c.largest-quotas.ensures
+  held = (refl, c.largest_quotas.ensures);
+  meaning = rw c.largest_quotas.ensures
       (laid (g.L.Links.meaning c.args.below) (g.L.Links.sound c.args.below));
 }

@@ -2,11 +2,11 @@ use Rattle.std.proofs.Common.{arith}
 use Rattle.layers.specs.Soundness.{within_quota}
 use Rattle.layers.proofs.quota.Quota.unused.Goals as goal
 
-pub overflow-sub-result : goal.overflow-sub-result
-overflow-sub-result g c =
+pub overflow_sub-result : goal.overflow_sub-result
+overflow_sub-result g c =
     let s = c.args.self.now in
-    let q = c.in-ok-quota.ensures in
-    let w = c.in-ok-waiting.ensures in
+    let q = c.in_ok-quota.ensures in
+    let w = c.in_ok-waiting.ensures in
     omega (
       arith,
       q.1,

@@ -6,8 +6,8 @@ pub returns-in-Ok : goal.returns-in-Ok
 returns-in-Ok g c =
     let s = c.args.self.now in
     let h = c.in-Ok.ensures in
-    let u = c.in-ok-unused.ensures in
+    let u = c.in_ok-unused.ensures in
     let here : c.args.link < length s.left = omega (arith, h.timely.there, (g.L.Links.sound s.below).few) in
     put_done (g.L.Links.meaning s.below) (g.L.Links.meaning c.put.new.self) s.left c.args.link
-    c.saturating-sub.result here c.args.time c.args.cargo c.saturating-sub.ensures
+    c.saturating_sub.result here c.args.time c.args.cargo c.saturating_sub.ensures
     (λ none. c.if-branch-eq0.false (omega (arith, none, u.1))) h

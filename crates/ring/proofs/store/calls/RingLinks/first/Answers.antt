@@ -8,7 +8,7 @@ pub returns-then-lane-eq0 : goal.returns-then-lane-eq0
 returns-then-lane-eq0 g c =
     let s = c.args.self.now in
     let k = c.args.link in
-    let found = c.in-ok-lane.ensures in
+    let found = c.in_ok-lane.ensures in
     let none : (row s.lanes k).len ≡ 0 = rw (← found.1) c.if-lane-eq0.true in
     (found.0, sym (ap oldest (none_waits s k found.0 none)))
 
@@ -16,6 +16,6 @@ pub returns : goal.returns
 returns g c =
     let s = c.args.self.now in
     let k = c.args.link in
-    let found = c.in-ok-lane.ensures in
+    let found = c.in_ok-lane.ensures in
     let some : 0 < (row s.lanes k).len = rw (← found.1) (omega arith) in
     (found.0, first_waits s k found.0 _ (rw c.slot-at.ensures.is at c.index-slots-at.is) some)

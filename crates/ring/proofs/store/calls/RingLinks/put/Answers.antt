@@ -4,20 +4,20 @@ use Rattle.ring.proofs.Rows.{rows_set, within_set}
 use Rattle.ring.proofs.Putting.{put_done}
 use Rattle.ring.proofs.store.calls.RingLinks.put.Goals as goal
 
-pub invariant-of-self : goal.invariant-of-self
-invariant-of-self g c =
+pub invariant_of-self : goal.invariant_of-self
+invariant_of-self g c =
     let s = c.args.self.now in
     let k = c.args.link in
-    let found = c.in-ok-lane.ensures in
+    let found = c.in_ok-lane.ensures in
     let w = rw (← found.1) at (s.within k found.0.there) in
     let soon = found.0.soon in
-    (s.few, (s.wide, (simp length-set s.enough, (rows_set s k _, (within_set s k _ (omega arith, omega arith, omega arith), tt)))))
+    record { few = s.few; wide = s.wide; enough = simp length-set s.enough; rows = rows_set s k _; within = within_set s k _ (omega arith, omega arith, omega arith) }
 
 pub returns : goal.returns
 returns g c =
     let s = c.args.self.now in
     let k = c.args.link in
-    let found = c.in-ok-lane.ensures in
+    let found = c.in_ok-lane.ensures in
     let w = rw (← found.1) at (s.within k found.0.there) in
     let room : (row s.lanes k).len < s.size = rw (← found.1) (omega (arith, w.1)) in
     put_done s k found.0.there room _ _ c.args.time c.args.cargo found.0

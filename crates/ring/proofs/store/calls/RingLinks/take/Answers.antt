@@ -6,24 +6,24 @@ use Rattle.ring.proofs.store.calls.RingLinks.take.Goals as goal
 
 pub place-head-requires : goal.place-head-requires
 place-head-requires g c =
-    let w = c.args.self.now.within c.args.link c.in-ok-event.ensures.0 in
+    let w = c.args.self.now.within c.args.link c.in_ok-event.ensures.0 in
     (w.0, (omega (arith, w.0), c.args.self.now.wide))
 
-pub overflow-sub-self : goal.overflow-sub-self
-overflow-sub-self g c =
-    let found = c.in-ok-event.ensures in
+pub overflow_sub-self : goal.overflow_sub-self
+overflow_sub-self g c =
+    let found = c.in_ok-event.ensures in
     first_some c.args.self.now c.args.link found.0 c.in-Some.event (rw c.in-Some.is at found.1)
 
-pub invariant-of-self : goal.invariant-of-self
-invariant-of-self g c =
+pub invariant_of-self : goal.invariant_of-self
+invariant_of-self g c =
     let s = c.args.self.now in
     let k = c.args.link in
-    let w = s.within k c.in-ok-event.ensures.0 in
+    let w = s.within k c.in_ok-event.ensures.0 in
     let head : c.place-head.result < s.size = rw c.place-head.ensures (around_below s.size _ _ w.0 (omega arith)) in
-    (s.few, (s.wide, (s.enough, (rows_set s k _, (within_set s k _ (head, omega arith, omega arith), tt)))))
+    record { few = s.few; wide = s.wide; enough = s.enough; rows = rows_set s k _; within = within_set s k _ (head, omega arith, omega arith) }
 
 pub returns : goal.returns
 returns g c =
-    let found = c.in-ok-event.ensures in
+    let found = c.in_ok-event.ensures in
     let is = rw c.in-Some.is at found.1 in
     take_done c.args.self.now c.args.link found.0 c.in-Some.event _ is c.place-head.ensures refl refl
