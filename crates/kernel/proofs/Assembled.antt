@@ -1,7 +1,6 @@
 -- The stages of a step make a step.
-use Rattle.std.proofs.Common.{◌≡◌, ℕ, Bool, List, [], ◌∷◌, ◌++◌, Some, None, Ok, sym, refl, ap, ◌∙◌, subst}
+use Rattle.std.proofs.Common.{◌≡◌, ℕ, Bool, Some, None, Ok, ◌∙◌, subst}
 use Rattle.model.specs.declared.event.Event.{Event}
-use Rattle.model.specs.declared.record.Record.{Record}
 use Rattle.model.specs.Pile.{Pile}
 use Rattle.model.specs.Shape.{Shape}
 use Rattle.simulation.specs.Net.{Program}

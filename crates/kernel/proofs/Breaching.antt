@@ -1,5 +1,5 @@
 -- A breach that a step reports is the simulation's, by the law of runs.
-use Rattle.std.proofs.Common.{◌≡◌, ℕ, Err, Result, subst}
+use Rattle.std.proofs.Common.{ℕ, Err, Result, subst}
 use Rattle.model.specs.declared.answer.Stepped.{Stepped}
 use Rattle.model.specs.declared.event.Event.{Event}
 use Rattle.model.specs.declared.refusal.Breach.{Breach}

@@ -1,8 +1,8 @@
 -- A safe event by its in-port is one by its link.
-use Rattle.std.proofs.Common.{◌≡◌, ℕ, ◌<◌, ◌≤◌, Bool, true, false, eqb, ◌≢◌, ◌⊎◌, List, length, get_or, Some, None, Option, sym, refl, ap, ◌∙◌, subst, inl, inr, ⊎_elim, arith}
+use Rattle.std.proofs.Common.{◌≡◌, ℕ, ◌<◌, Bool, true, ◌⊎◌, List, length, get_or, Some, None, Option, sym, refl, ap, ◌∙◌, subst, ⊎_elim}
 use Rattle.std.proofs.lemmas.Bool.{cases_lt, eq-eqb, eqb-true, true≢false}
 use Rattle.model.specs.declared.event.Event.{Event}
-use Rattle.model.specs.Lists.{at, then, is, is_none, oldest, place_of}
+use Rattle.model.specs.Lists.{then, is, is_none, oldest}
 use Rattle.model.specs.Pile.{Pile}
 use Rattle.model.specs.Shape.{Shape, target, in_links}
 use Rattle.model.proofs.Places.{at_past}

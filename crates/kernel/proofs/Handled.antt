@@ -1,16 +1,16 @@
 -- What a process does with the safe event, as the code runs it, is what its rule says.
-use Rattle.std.proofs.Common.{◌≡◌, ℕ, ◌+◌, List, Some, None, Ok, Err, Option, sym, refl, ap, ◌∙◌, subst}
+use Rattle.std.proofs.Common.{◌≡◌, ℕ, ◌+◌, List, Some, None, Ok, Err, Option, sym, ap, ◌∙◌}
 use Rattle.model.specs.declared.event.Event.{Event}
 use Rattle.model.specs.declared.sending.Sending.{Sending}
 use Rattle.model.specs.declared.refusal.Breach.{Breach}
 use Rattle.model.specs.Lists.{place_of}
 use Rattle.model.specs.Pile.{Pile}
 use Rattle.model.specs.Shape.{Shape, in_links, out_links}
-use Rattle.simulation.specs.Net.{Program, Outgoing, outgoing, breach_of, handle}
+use Rattle.simulation.specs.Net.{Program, outgoing, breach_of, handle}
 use Rattle.simulation.specs.Step.{Sent}
 use Rattle.kernel.specs.declared.sending.Going.{Going}
 use Rattle.kernel.specs.Judging.{judged, Gone}
-use Rattle.kernel.proofs.Judged.{as_outgoing, Lets, lets, breaks}
+use Rattle.kernel.proofs.Judged.{as_outgoing, lets, breaks}
 
 -- What is put is what goes out.
 pub sent_gone : {C : Type 0} (m n : Pile C) (x : Option (Going C)) → Gone m x n → Sent m (as_outgoing x) n

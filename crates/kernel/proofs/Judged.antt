@@ -1,14 +1,14 @@
 -- The judgement of a sending is its breach, or else lets it go out.
-use Rattle.std.proofs.Common.{◌≡◌, ℕ, zero, suc, ◌+◌, ◌<◌, ◌≤◌, Bool, true, false, cond, eqb, ltb, ◌⊎◌, List, [], ◌∷◌, length, get_or, Some, None, Ok, Err, Option, Result, sym, refl, ap, ◌∙◌, inl, inr, ⊎_elim, arith, rules}
+use Rattle.std.proofs.Common.{◌≡◌, ℕ, zero, suc, ◌+◌, ◌<◌, ◌≤◌, Bool, true, false, cond, ltb, List, [], ◌∷◌, length, get_or, Some, None, Ok, Err, Option, Result, sym, refl, ap, ◌∙◌, ⊎_elim, arith, rules}
 use Rattle.std.proofs.lemmas.Bool.{cases_lt, lt-ltb, le-ltb, true≢false}
 use Rattle.model.specs.declared.sending.Sending.{Sending}
 use Rattle.model.specs.declared.refusal.Breach.{Breach}
 use Rattle.model.specs.declared.refusal.Cause.TheVariants.{Early, TooFar, Overtaking}
-use Rattle.model.specs.Lists.{at, then}
+use Rattle.model.specs.Lists.{then}
 use Rattle.model.specs.Pile.{Pile, last_time}
 use Rattle.model.specs.Shape.{Shape, out_links}
 use Rattle.model.proofs.Places.{at_read, at_past}
-use Rattle.simulation.specs.Net.{Outgoing, outgoing, cause_of, breach_of}
+use Rattle.simulation.specs.Net.{Outgoing, outgoing, breach_of}
 use Rattle.simulation.specs.Step.{first_full}
 use Rattle.kernel.specs.declared.sending.Going.{Going}
 use Rattle.kernel.specs.Places.{Below}

@@ -1,8 +1,7 @@
 -- A run of this type is as it was prepared, but perhaps for its links.
-use Rattle.std.proofs.Common.{◌≡◌, ℕ, ◌<◌, ◌≤◌, Bool, true, false, ◌&&◌, eqb, ltb, leb, length, Some, vec_items, sym, refl, ap, ◌∙◌, arith, rules}
+use Rattle.std.proofs.Common.{◌≡◌, ℕ, ◌<◌, ◌≤◌, Bool, true, false, ◌&&◌, eqb, ltb, length, Some, sym, refl, ap, ◌∙◌, arith, rules}
 use Rattle.std.proofs.lemmas.Bool.{and_from, and_parts, eq-eqb, eqb-true, lt-ltb, ltb-true, le-leb}
 use Rattle.model.specs.Lists.{at}
-use Rattle.model.specs.Made.{shape_of}
 use Rattle.model.specs.Pile.{Pile}
 use Rattle.simulation.specs.View.{View, has, as_prepared}
 use Rattle.simulation.specs.Step.{Ready}

@@ -1,5 +1,5 @@
 -- A word's binary digits as marks: setting one, and counting them.
-use Rattle.std.proofs.Common.{◌≡◌, ℕ, zero, suc, ◌+◌, ◌*◌, ◌/◌, ◌%◌, ◌^◌, ◌<◌, ◌≤◌, min, max, Bool, true, false, cond, ◌&&◌, eqb, sym, refl, ap, ◌∙◌, pow-suc, arith}
+use Rattle.std.proofs.Common.{◌≡◌, ℕ, zero, suc, ◌/◌, ◌%◌, ◌^◌, ◌<◌, max, Bool, true, false, cond, ◌&&◌, eqb, sym, refl, ap, ◌∙◌, pow-suc, arith}
 use lib.Bits.{bit_or, or_step, or_shr, or_zero_r, or_lt}
 use lib.Count.{ones, ones_step, ones-le}
 use Rattle.std.proofs.lemmas.Bool.{eq-eqb, ne_eqb}

@@ -1,5 +1,5 @@
 -- The stages of prepare.
-use Rattle.std.specs.Prelude.{◌≡◌, ℕ, ◌<◌, ◌≤◌, Bool, true, false, ◌&&◌, List, [], length, Some, None, Ok, Err, vec_items, vec_capacity, Option, Result, Vec, nat_lt}
+use Rattle.std.specs.Prelude.{◌≡◌, ℕ, ◌<◌, ◌≤◌, Bool, ◌&&◌, List, [], length, Some, None, Ok, Err, vec_items, vec_capacity, Option, Result, Vec, nat_lt}
 use Rattle.std.specs.declared.alloc.Global.{Global}
 use Rattle.model.specs.declared.plan.Plan.{Plan}
 use Rattle.model.specs.declared.record.Record.{Record}

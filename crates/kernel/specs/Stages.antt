@@ -1,5 +1,5 @@
 -- The stages of a step: the safe event taken or refused, and the end of the step.
-use Rattle.std.specs.Prelude.{◌≡◌, ℕ, ◌<◌, List, [], ◌∷◌, ◌++◌, length, Some, None, Ok, Err, Option, Result, slice_set}
+use Rattle.std.specs.Prelude.{◌≡◌, ℕ, ◌<◌, [], ◌∷◌, ◌++◌, length, Some, None, Ok, Err, Option, Result, slice_set}
 use Rattle.model.specs.declared.event.Event.{Event}
 use Rattle.model.specs.declared.refusal.Refusal.{Refusal}
 use Rattle.model.specs.Lists.{place_of}
@@ -8,7 +8,7 @@ use Rattle.model.specs.Shape.{Shape, in_links, out_links}
 use Rattle.model.specs.Linking.{TakeDone}
 use Rattle.simulation.specs.Net.{Program, handle, record_of}
 use Rattle.simulation.specs.View.{View, Safe}
-use Rattle.simulation.specs.Step.{Step, Ready, Sent, first_full, sent, breach}
+use Rattle.simulation.specs.Step.{Step, Sent, first_full, sent, breach}
 use Rattle.kernel.specs.declared.safety.Safe.{Safe as Found}
 
 module _ {C P : Type 0} (g : Program C P) where

@@ -3,10 +3,7 @@ ghost use Rattle.std.specs.Prelude.{◌≡◌, ◌≤◌, vec_len, vec_capacity}
 
 use crate::marks::Marks;
 use crate::routes::Routes;
-use model::cargo::Cargo;
-use model::links::Links;
 use model::plan::Plan;
-use model::process::Process;
 use model::record::Record;
 use model::refusal::Unprepared;
 use std::marker::PhantomData;
@@ -19,7 +16,7 @@ mod step;
 
 // Where the processes, links and log of a run stand, who has stepped in this round, and how many rounds are over.
 #[derive(Drop)]
-pub struct Run<C: Cargo, P: Process<C>, L: Links<C>> {
+pub struct Run<C, P, L> {
     routes: Routes,
     processes: Vec<P>,
     links: L,

@@ -1,7 +1,7 @@
-use Rattle.std.proofs.Common.{◌≡◌, ℕ, ◌+◌, ◌*◌, ◌%◌, ◌^◌, ◌<◌, min, Bool, true, false, cond, sym, refl, ap, ◌∙◌, arith, eq-eqb, ne_eqb}
+use Rattle.std.proofs.Common.{◌≡◌, ℕ, ◌+◌, ◌*◌, ◌%◌, ◌^◌, ◌<◌, min, true, false, cond, sym, refl, ap, ◌∙◌, arith, eq-eqb, ne_eqb}
 use lib.Bits.{bit_or}
 use Rattle.std.proofs.lemmas.Nat.{one_shl}
-use Rattle.model.specs.Lists.{update, each}
+use Rattle.model.specs.Lists.{update}
 use Rattle.kernel.specs.Bits.{bit}
 use Rattle.kernel.proofs.Words.{none_set, word_fits, word_marks, word_full}
 use Rattle.kernel.proofs.marks.Marks.mark.Goals as goal
@@ -14,7 +14,7 @@ pub invariant_of-self-else-word-self : goal.invariant_of-self-else-word-self
 invariant_of-self-else-word-self c =
     let s = c.args.self.now in
     let set = shifted s.word c.args.process (omega (arith, s.few, c.requires)) in
-    (s.few, (word_fits s.processes s.word c.args.process _ c.requires s.within set, tt))
+    record { few = s.few; within = word_fits s.processes s.word c.args.process _ c.requires s.within set }
 
 pub returns-then-word-self : goal.returns-then-word-self
 returns-then-word-self c =

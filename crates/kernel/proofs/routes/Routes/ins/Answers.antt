@@ -1,4 +1,4 @@
-use Rattle.std.proofs.Common.{◌≡◌, ℕ, Bool, length, vec_items, sym, ◌∙◌, subst, arith}
+use Rattle.std.proofs.Common.{ℕ, Bool, length, vec_items, sym, ◌∙◌, subst, arith}
 use Rattle.model.specs.Lists.{is}
 use Rattle.model.specs.Shape.{in_links, target}
 use Rattle.model.specs.Made.{shape_of}

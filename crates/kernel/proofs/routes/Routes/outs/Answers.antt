@@ -1,8 +1,8 @@
-use Rattle.std.proofs.Common.{◌≡◌, ℕ, Bool, length, vec_items, sym, ap, ◌∙◌, subst, arith}
+use Rattle.std.proofs.Common.{ℕ, Bool, length, vec_items, sym, ap, ◌∙◌, subst, arith}
 use Rattle.model.specs.Lists.{is}
 use Rattle.model.specs.Shape.{out_links, source}
 use Rattle.model.specs.Made.{shape_of}
-use Rattle.kernel.specs.Places.{Below, Rising}
+use Rattle.kernel.specs.Places.{Below}
 use Rattle.kernel.proofs.Selected.{row, rows, selects}
 use Rattle.model.proofs.Limits.{limits}
 use Rattle.kernel.proofs.routes.Routes.outs.Goals as goal

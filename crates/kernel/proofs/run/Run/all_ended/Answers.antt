@@ -1,4 +1,4 @@
-use Rattle.std.proofs.Common.{◌≡◌, ℕ, Bool, ◌&&◌, eqb, sym, ap, ◌∙◌}
+use Rattle.std.proofs.Common.{ℕ, Bool, ◌&&◌, eqb, sym, ap, ◌∙◌}
 use Rattle.model.specs.Made.{shape_of}
 use Rattle.model.proofs.Places.{each_more}
 use Rattle.simulation.specs.View.{clock}

@@ -1,8 +1,7 @@
-use Rattle.std.proofs.Common.{◌≡◌, ℕ, Bool, true, false, ◌&&◌, eqb, length, sym, refl, ap, ◌∙◌}
+use Rattle.std.proofs.Common.{ℕ, Bool, ◌&&◌, eqb, length, sym, refl, ap, ◌∙◌}
 use Rattle.model.specs.Lists.{each}
 use Rattle.model.specs.Made.{shape_of}
-use Rattle.simulation.specs.View.{clock, as_prepared}
-use Rattle.kernel.specs.OfRun.{view_of}
+use Rattle.simulation.specs.View.{clock}
 use Rattle.kernel.proofs.Called.{called}
 use Rattle.kernel.proofs.Standing.{prepared_is}
 use Rattle.kernel.proofs.run.Run.done.Goals as goal

@@ -1,4 +1,4 @@
-use Rattle.std.proofs.Common.{◌≡◌, ℕ, Some, Ok, vec_items, sym, refl, ap, ◌∙◌, subst, arith}
+use Rattle.std.proofs.Common.{Some, Ok, vec_items, sym, ap, ◌∙◌, subst, arith}
 use Rattle.model.proofs.Places.{at_read}
 use Rattle.simulation.specs.Step.{Step, Closes}
 use Rattle.simulation.specs.Programs.{program_of}
@@ -7,7 +7,7 @@ use Rattle.kernel.specs.Stages.{Took}
 use Rattle.kernel.proofs.Standing.{ready, has_both}
 use Rattle.kernel.proofs.Assembled.{idle_step, taking_step}
 use Rattle.kernel.proofs.run.Run.once.Goals as goal
-use Rattle.kernel.proofs.run.Run.once.Goals.{in-Some+in-ok-take, in-None}
+use Rattle.kernel.proofs.run.Run.once.Goals.{in-Some+in_ok-take-in-Some, in-None}
 
 pub returns-then-not-has : goal.returns-then-not-has
 returns-then-not-has g c = Step.absent (sym c.has.ensures ∙ c.if-not-has.true)
@@ -39,9 +39,9 @@ returns g c =
     let here = ready m r p s both.0 both.1 is_state in
     let ends = c.close-nulls.ensures in
     elim c.match-safe.branch [
-      | in-Some+in-ok-take w ↦
+      | in-Some+in_ok-take-in-Some w ↦
           let safe = w.in-Some.safe in
-          let took = subst (λ x. Took G (view_of m r) p s safe.link safe.event (view_of m x)) (sym w.self-is) w.in-ok-take.ensures in
+          let took = subst (λ x. Took G (view_of m r) p s safe.link safe.event (view_of m x)) (sym w.self-is) w.in_ok-take-in-Some.ensures in
           subst (λ t. Step G (view_of m r) p (Ok (record { taken = t; nulls = n })) W) (sym w.taken-is)
           (taking_step G p s (view_of m r) (view_of m u) W safe.link safe.event c.lookahead-lookahead.result n here
           w.in-Some.ensures.0 c.lookahead-lookahead.ensures took ends.closes ends.processes ends.log)

@@ -1,4 +1,4 @@
-use Rattle.std.proofs.Common.{◌≡◌, ℕ, suc, Bool, ◌&&◌, sym, refl, ap, ◌∙◌, subst, add-one, arith}
+use Rattle.std.proofs.Common.{◌≡◌, suc, ◌&&◌, sym, ap, ◌∙◌, subst, add-one, arith}
 use Rattle.simulation.specs.Calls.{Pass, quiet}
 use Rattle.simulation.specs.Programs.{program_of}
 use Rattle.kernel.specs.OfRun.{view_of}

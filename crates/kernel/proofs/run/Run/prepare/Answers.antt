@@ -1,24 +1,20 @@
-use Rattle.std.proofs.Common.{◌≡◌, ℕ, ◌≤◌, min, true, false, eqb, List, [], length, vec_items, sym, refl, ap, ◌∙◌, subst, arith}
+use Rattle.std.proofs.Common.{length, vec_items, sym, refl, ap, ◌∙◌, subst, arith}
 use Rattle.std.proofs.lemmas.Bool.{eq-eqb, eqb-true, true≢false}
 use Rattle.model.specs.Made.{shape_of}
 use Rattle.model.specs.Shape.{outside_links}
-use Rattle.simulation.specs.Net.{Net}
 use Rattle.simulation.specs.Step.{Nulls}
-use Rattle.simulation.specs.Prepare.{Prepares, Prepared, AsPlanned, Opens, OpeningFails, After}
-use Rattle.simulation.specs.Programs.{program_of}
-use Rattle.kernel.specs.OfRun.{view_of}
-use Rattle.kernel.specs.Preparing.{Opened}
+use Rattle.simulation.specs.Prepare.{Prepares, Opens, OpeningFails}
 use Rattle.kernel.proofs.Called.{just_prepared}
 use Rattle.kernel.proofs.FromOutside.{opens_count}
 use Rattle.kernel.proofs.run.Run.prepare.Goals as goal
-use Rattle.kernel.proofs.run.Run.prepare.Goals.{then-len-processes-via-then-len-processes, then-len-processes-via-else-len-processes+then-not-as-many}
+use Rattle.kernel.proofs.run.Run.prepare.Goals.{then-len-processes-via-then-len-processes, then-len-processes-via-else-len-processes+then-not-as_many}
 
 pub returns-then-len-processes : goal.returns-then-len-processes
 returns-then-len-processes g c = (
   Prepares.wrong_numbers (λ planned. elim c.then-len-processes.branch [
     | then-len-processes-via-then-len-processes w ↦
         w.if-len-processes.true (c.len.ensures ∙ c.args.processes.ok.0 ∙ planned.processes ∙ sym c.processes.ensures.is)
-    | then-len-processes-via-else-len-processes+then-not-as-many w ↦
+    | then-len-processes-via-else-len-processes+then-not-as_many w ↦
         true≢false (sym (eq-eqb _ _ (planned.links ∙ sym w.link_count.ensures)) ∙ sym w.as_many.ensures ∙ w.if-not-as_many.true)
   ]),
   refl,

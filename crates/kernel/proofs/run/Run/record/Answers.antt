@@ -1,4 +1,4 @@
-use Rattle.std.proofs.Common.{cond, Ok, Err, vec_items, sym, refl, ap, ◌∙◌}
+use Rattle.std.proofs.Common.{cond, Err, vec_items, sym, refl, ap, ◌∙◌}
 use Rattle.model.specs.declared.refusal.Refusal.TheVariants.{NoSuch}
 use Rattle.model.specs.Lists.{at}
 use Rattle.simulation.specs.View.{history}

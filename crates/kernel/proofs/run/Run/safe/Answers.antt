@@ -1,4 +1,4 @@
-use Rattle.std.proofs.Common.{◌≡◌, ap, ◌∙◌, subst}
+use Rattle.std.proofs.Common.{subst}
 use Rattle.model.specs.Made.{shape_of}
 use Rattle.kernel.specs.Searching.{SafeOr}
 use Rattle.kernel.proofs.ByLink.{found}

@@ -1,11 +1,11 @@
-use Rattle.std.proofs.Common.{◌≡◌, ℕ, ◌+◌, ◌<◌, List, [], ◌∷◌, ◌++◌, set, Some, None, vec_items, Option, sym, refl, ap, ◌∙◌, subst, arith}
+use Rattle.std.proofs.Common.{ℕ, ◌+◌, [], ◌∷◌, ◌++◌, set, vec_items, sym, refl, ap, ◌∙◌, subst, arith}
 use Rattle.model.specs.Made.{shape_of}
 use Rattle.simulation.specs.Programs.{program_of}
 use Rattle.simulation.specs.Step.{Step, Sent, first_full}
 use Rattle.kernel.proofs.Standing.{ready}
 use Rattle.kernel.proofs.ByLink.{there}
 use Rattle.kernel.proofs.Judged.{none_full, may_go}
-use Rattle.kernel.proofs.Handled.{Ran, broke, went, next_is, sent_gone}
+use Rattle.kernel.proofs.Handled.{broke, went, next_is, sent_gone}
 use Rattle.kernel.proofs.run.Run.take.Goals as goal
 
 pub returns-in-Some : goal.returns-in-Some

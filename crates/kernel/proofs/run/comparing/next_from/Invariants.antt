@@ -1,4 +1,4 @@
-use Rattle.std.proofs.Common.{◌≡◌, ◌≤◌, drop}
+use Rattle.std.proofs.Common.{◌≡◌, drop}
 use Rattle.simulation.specs.View.{history}
 use Rattle.kernel.proofs.run.comparing.next_from.Given as goal
 

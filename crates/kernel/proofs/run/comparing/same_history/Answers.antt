@@ -1,4 +1,4 @@
-use Rattle.std.proofs.Common.{◌≡◌, sym, ap, ◌∙◌, subst}
+use Rattle.std.proofs.Common.{◌≡◌, subst}
 use Rattle.simulation.specs.View.{history}
 use Rattle.simulation.specs.Programs.{program_of}
 use Rattle.simulation.proofs.LawOfRuns.{law}

@@ -1,4 +1,4 @@
-use Rattle.std.proofs.Common.{◌≡◌, List, ◌∷◌, drop, sym, ap, ◌∙◌}
+use Rattle.std.proofs.Common.{List, ◌∷◌, drop, sym, ap, ◌∙◌}
 use mathlib.Core.List.{tail}
 use Rattle.model.specs.declared.record.Record.{Record}
 use Rattle.simulation.specs.View.{history}

@@ -1,6 +1,6 @@
-use Rattle.std.proofs.Common.{◌≡◌, true, false, None, vec_items, sym, ap, ◌∙◌, arith}
+use Rattle.std.proofs.Common.{None, vec_items, ap, ◌∙◌, arith}
 use Rattle.std.proofs.lemmas.Bool.{true≢false}
-use Rattle.model.specs.Lists.{at, is_none}
+use Rattle.model.specs.Lists.{is_none}
 use Rattle.model.proofs.Places.{at_read}
 use Rattle.kernel.proofs.run.prepare.fits.Goals as goal
 

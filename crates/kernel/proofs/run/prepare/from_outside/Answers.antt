@@ -1,4 +1,4 @@
-use Rattle.std.proofs.Common.{◌≡◌, sym, ap, ◌∙◌}
+use Rattle.std.proofs.Common.{sym, ap, ◌∙◌}
 use Rattle.model.specs.Lists.{is_none}
 use Rattle.model.specs.Made.{shape_of}
 use Rattle.kernel.proofs.FromOutside.{outside_is, outside_none}

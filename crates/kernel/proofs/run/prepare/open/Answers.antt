@@ -1,4 +1,4 @@
-use Rattle.std.proofs.Common.{◌≡◌, ◌+◌, ◌∷◌, drop, sym, refl, ap, ◌∙◌, subst, take_all}
+use Rattle.std.proofs.Common.{◌+◌, ◌∷◌, drop, sym, ◌∙◌, subst, take_all}
 use Rattle.model.specs.declared.refusal.Unprepared.TheVariants.{LinkRefused}
 use Rattle.model.specs.Made.{shape_of}
 use Rattle.simulation.specs.Prepare.{Opens, OpeningFails}

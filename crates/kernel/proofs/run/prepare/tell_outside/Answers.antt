@@ -7,7 +7,7 @@ use Rattle.simulation.specs.Step.{Nulls}
 use Rattle.kernel.proofs.FromOutside.{outside_test}
 use Rattle.kernel.proofs.Telling.{Told, told_without, told_high, told_more}
 use Rattle.kernel.proofs.run.prepare.tell_outside.Goals as goal
-use Rattle.kernel.proofs.run.prepare.tell_outside.Goals.{then-from-outside+then-floor-of-horizon, then-from-outside+else-floor-of-horizon, else-from-outside}
+use Rattle.kernel.proofs.run.prepare.tell_outside.Goals.{then-from_outside+then-floor_of-horizon, then-from_outside+else-floor_of-horizon, else-from_outside}
 
 pub loop-link-init : goal.loop-link-init
 loop-link-init g c = ((0, Nulls.no_more), refl)
@@ -25,20 +25,20 @@ loop-link-preserved g c =
     let short : i < length plan.links = omega (arith, c.loop-link-test.true, c.link_count-link-end.ensures) in
     let is_test = sym (outside_test plan i short) ∙ sym c.from_outside.ensures in
     elim c.if-from_outside.branch [
-      | then-from-outside+then-floor-of-horizon w ↦ (
+      | then-from_outside+then-floor_of-horizon w ↦ (
         subst (λ l. Told plan.horizon test (i + 1) first (m l)) (sym w.links-is)
             (told_more plan.horizon test i first before inv.0 (m w.raise.new.links) (is_test ∙ w.if-from_outside.true)
             (omega (arith, h, w.floor_of.ensures, w.delay_of.ensures.is, w.if-floor_of-horizon.true))
             (subst (λ t. NullDone before i t (m w.raise.new.links)) h w.raise.ensures)),
         ap (λ l. (m l).count) w.links-is ∙ w.raise.ensures.steady.count ∙ inv.1,
       )
-      | then-from-outside+else-floor-of-horizon w ↦ (
+      | then-from_outside+else-floor_of-horizon w ↦ (
         subst (λ l. Told plan.horizon test (i + 1) first (m l)) (sym w.links-is)
             (told_high plan.horizon test i first before inv.0 (is_test ∙ w.if-from_outside.true)
             (omega (arith, h, w.floor_of.ensures, w.delay_of.ensures.is, w.if-floor_of-horizon.false))),
         ap (λ l. (m l).count) w.links-is ∙ inv.1,
       )
-      | else-from-outside w ↦ (
+      | else-from_outside w ↦ (
         subst (λ l. Told plan.horizon test (i + 1) first (m l)) (sym w.links-is)
             (told_without plan.horizon test i first before inv.0 (is_test ∙ w.if-from_outside.false)),
         ap (λ l. (m l).count) w.links-is ∙ inv.1,
