@@ -1,6 +1,8 @@
 -- Reading a number from bytes, and from its digits.
-use Rattle.std.proofs.Common.{◌≡◌, ℕ, ◌+◌, ◌-◌, ◌*◌, ◌^◌, ◌<◌, ◌≤◌, Bool, true, false, cond, not, ◌&&◌, eqb, ltb, List, [], ◌∷◌, length, get_or, drop, Some, None, decimal, Decides, Option, sym, refl, ap, ◌∙◌, subst, ⊎_elim, arith, rules, MatchOption}
+use Rattle.std.proofs.Common.{◌≡◌, ℕ, ◌+◌, ◌-◌, ◌*◌, ◌^◌, ◌<◌, ◌≤◌, Bool, true, false, cond, not, ◌&&◌, eqb, ltb, List, [], ◌∷◌, length, get_or, drop, Some, None, decimal, Decides, Option, sym, refl, ap, ◌∙◌, ⊎_elim, arith, rules}
 use Rattle.std.specs.Char.{is_ascii_digit}
+use Rattle.std.specs.Option.{option_eq}
+use Rattle.std.proofs.lemmas.Bool.Decides.{Decides-eqb}
 use Rattle.std.specs.Str.{all_ascii_digits, bytes_eq}
 use Rattle.std.proofs.lemmas.Fmt.{first_decimal, decimal_digit, decimal_nonempty, decimal-digits_value, digits_value-decimal, digits_decimal as decimal-digits}
 use Rattle.std.proofs.lemmas.Slice.Eq.{bytes_eq-Decides}
@@ -127,7 +129,7 @@ same_by xs ys r h = search (rules, bytes_eq-Decides)
 
 -- bytes are the digits of n exactly where n is read from them
 pub spelled : (bs : List ℕ) (n : ℕ) → n < 2 ^ 32
-    → (o : Option ℕ) (r : Bool) → o ≡ number_of bs → MatchOption o (r ≡ false) (λ m. Decides r (m ≡ n))
+    → (o : Option ℕ) (r : Bool) → o ≡ number_of bs → r ≡ option_eq eqb o (Some n)
     → r ≡ bytes_eq bs (digits n)
 spelled bs n l None r e h =
     same_by bs (digits n) r (
@@ -136,6 +138,6 @@ spelled bs n l None r e h =
     )
 spelled bs n l (Some m) r e h =
     same_by bs (digits n) r (
-      (λ t. only_digits bs n (sym e ∙ ap Some (h.0 t))),
-      λ d. h.1 (let q : Some m ≡ Some n = e ∙ ap number_of d ∙ read_digits n l in cc),
+      (λ t. only_digits bs n (sym e ∙ ap Some ((Decides-eqb m n).0 (sym h ∙ t)))),
+      λ d. h ∙ (Decides-eqb m n).1 (let q : Some m ≡ Some n = e ∙ ap number_of d ∙ read_digits n l in cc),
     )

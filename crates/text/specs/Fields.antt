@@ -1,5 +1,5 @@
 -- The fields of a line: 34 is the quote, 44 the comma.
-use Rattle.std.specs.Prelude.{◌≡◌, ℕ, ◌+◌, Bool, true, false, cond, ◌&&◌, List, [], ◌∷◌, ◌++◌, length, take, drop, Ok, Err, Result, ◌==◌, nat_le}
+use Rattle.std.specs.Prelude.{◌≡◌, ℕ, ◌+◌, Bool, cond, ◌&&◌, List, [], ◌∷◌, ◌++◌, length, take, drop, Ok, Err, Result, ◌==◌, nat_le}
 use Rattle.text.specs.declared.fields.Malformed.{Malformed}
 use Rattle.text.specs.declared.fields.State.{State}
 use Rattle.text.specs.declared.fields.State.TheVariants.{Start, Plain, Quoted, AfterQuote}

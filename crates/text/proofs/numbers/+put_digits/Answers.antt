@@ -13,7 +13,7 @@ front t c =
     elim c.if-tenth-gt0.branch [
       | then-tenth-gt0 w ↦
           let some : tenths c.args.n ≡ digits (c.args.n / 10) = tenths_some c.args.n w.if-tenth-gt0.true in
-          simp (w.buf-is, w.end-is, some) w.put-digits-end.ensures
+          simp (w.buf-is, w.end-is, some) w.put_digits-end.ensures
       | else-tenth-gt0 w ↦
           let none : tenths c.args.n ≡ [] = tenths_none c.args.n (omega (arith, w.if-tenth-gt0.false)) in
           simp (w.buf-is, w.end-is, none) (nothing c.args.buf.now 0 (omega arith))
@@ -23,8 +23,8 @@ front t c =
 within : (t : ℕ) (c : Joined-tenth-gt0 t) → c.if-tenth-gt0.end < length c.if-tenth-gt0.buf
 within t c = omega (arith, (front t c).ends, length_kept _ (front t c), length_more c.args.n, c.requires)
 
-pub put-digits-end-requires : goal.put-digits-end-requires
-put-digits-end-requires t c =
+pub put_digits-end-requires : goal.put_digits-end-requires
+put_digits-end-requires t c =
     (omega arith, omega (arith, length_more c.args.n, ap length (tenths_some c.args.n c.if-tenth-gt0.true)))
 
 pub bounds-buf-end : goal.bounds-buf-end

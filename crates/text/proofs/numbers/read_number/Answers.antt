@@ -1,4 +1,4 @@
-use Rattle.std.proofs.Common.{◌≡◌, ◌+◌, ◌-◌, ◌*◌, get_or, sym, ap, ◌∙◌, arith}
+use Rattle.std.proofs.Common.{◌+◌, ◌*◌, sym, ap, arith}
 use Rattle.text.proofs.ReadBack.{at_end, at_no_digit, next, padded, past_limit}
 use Rattle.text.proofs.numbers.read_number.Goals as goal
 
