@@ -1,5 +1,5 @@
 -- The worked plan: two vehicles come together to a signal, with an exit twenty seconds behind it.
-use Rattle.std.specs.Prelude.{◌≡◌, ℕ, List, [], ◌∷◌, Some, None, refl}
+use Rattle.std.specs.Prelude.{◌≡◌, ℕ, [], ◌∷◌, Some, None, refl}
 use Rattle.model.specs.declared.opening.Opening.{Opening}
 use Rattle.model.specs.declared.record.Record.{Record}
 use Rattle.model.specs.Shape.{Shape}

@@ -1,5 +1,5 @@
 -- Which events are safe, and which sendings are early.
-use Rattle.std.specs.Prelude.{◌≡◌, ℕ, ◌+◌, cond, List, [], ◌∷◌, Some, None, ◌==◌}
+use Rattle.std.specs.Prelude.{◌≡◌, ℕ, ◌+◌, cond, [], ◌∷◌, Some, None, ◌==◌}
 use Rattle.model.specs.declared.event.Event.{Event}
 use Rattle.model.specs.declared.link.Link.{Link}
 use Rattle.model.specs.declared.refusal.Cause.TheVariants.{Early}

@@ -1,5 +1,5 @@
 -- When signals and switches let go, and what a route becomes.
-use Rattle.std.specs.Prelude.{◌≡◌, ℕ}
+use Rattle.std.specs.Prelude.{◌≡◌}
 use Rattle.road.specs.declared.signal.settings.Settings.{Settings}
 use Rattle.road.specs.Routes.{onward_route}
 use Rattle.road.specs.Starting.{start_of}
