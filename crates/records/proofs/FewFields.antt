@@ -1,5 +1,5 @@
 -- A line has no more fields than bytes and one, and nine fields fill nine places.
-use Rattle.std.proofs.Common.{◌≡◌, ℕ, ◌+◌, ◌≤◌, List, [], ◌∷◌, ◌++◌, length, take, drop, ap, ◌∙◌, ⊎_elim, arith, length-append}
+use Rattle.std.proofs.Common.{◌≡◌, ℕ, ◌+◌, ◌≤◌, List, ◌∷◌, ◌++◌, length, ap, ◌∙◌, ⊎_elim, arith, length-append}
 use Rattle.std.proofs.lemmas.List.{take_all, drop_all, append-nil}
 use Rattle.text.specs.Fields.{Cut, whole, broken, found, onto, filled}
 use Rattle.text.specs.Grammar.{Parted, last, more, fault}

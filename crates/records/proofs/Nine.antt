@@ -1,5 +1,5 @@
 -- The nine fields of a record, as a slice pattern binds them.
-use Rattle.std.proofs.Common.{◌≡◌, ℕ, zero, suc, true, false, cond, eqb, List, [], ◌∷◌, map, length, get_or, sym, refl, ap, ◌∙◌, Bor, eq-eqb, ne_eqb}
+use Rattle.std.proofs.Common.{◌≡◌, ℕ, zero, suc, cond, eqb, List, [], ◌∷◌, map, length, get_or, sym, refl, ap, ◌∙◌, Bor, eq-eqb, ne_eqb}
 use lib.ListN.{length-map}
 use Rattle.records.specs.Words.{word_of}
 use Rattle.records.specs.declared.reading.words.Word.{Word}

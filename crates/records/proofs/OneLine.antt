@@ -1,5 +1,5 @@
 -- One line read, and the rest to come.
-use Rattle.std.proofs.Common.{◌≡◌, ℕ, ◌+◌, List, [], ◌∷◌, Ok, Err, Option, Result, sym, ap}
+use Rattle.std.proofs.Common.{◌≡◌, ℕ, ◌+◌, List, ◌∷◌, Ok, Err, Option, ap}
 use Rattle.model.specs.declared.link.Link.{Link}
 use Rattle.model.specs.declared.opening.Opening.{Opening}
 use Rattle.model.specs.declared.reading.PlanFault.TheVariants.{InRecord}

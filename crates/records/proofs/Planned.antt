@@ -1,11 +1,11 @@
 -- A plan whose net record was read goes on with the lines of its family.
-use Rattle.std.proofs.Common.{◌≡◌, ℕ, ◌≤◌, Bool, false, cond, ltb, List, length, Ok, Err, Result, sym, ap, ◌∙◌}
+use Rattle.std.proofs.Common.{◌≡◌, ℕ, ◌≤◌, Bool, cond, List, length, Ok, Err, Result, sym, ap, ◌∙◌}
 use Rattle.std.proofs.lemmas.Bool.{le-ltb}
 use Rattle.model.specs.declared.reading.RecordFault.{RecordFault}
 use Rattle.model.specs.declared.reading.PlanFault.TheVariants.{TooLong}
 use Rattle.text.specs.Fields.{cut_line}
 use Rattle.text.specs.Lines.{FirstLine, lines_of}
-use Rattle.records.specs.PlanText.{Rooms, Held, PlanRead, first_cut, in_family, after_first, plan_lines, plan_of}
+use Rattle.records.specs.PlanText.{Rooms, Held, first_cut, in_family, after_first, plan_lines, plan_of}
 use Rattle.records.specs.declared.reading.kinds.Net.{Net}
 use Rattle.records.specs.declared.reading.words.Family.{Family}
 

@@ -1,5 +1,5 @@
 -- What one record adds to the caller's lists, and why it may be refused then.
-use Rattle.std.specs.Prelude.{ℕ, ◌+◌, ◌*◌, Bool, true, false, cond, ◌&&◌, List, [], ◌∷◌, ◌++◌, length, drop, Some, None, Ok, Err, fold, Option, Result, ◌==◌, nat_le, nat_lt, slice_index_or}
+use Rattle.std.specs.Prelude.{ℕ, ◌+◌, ◌*◌, Bool, cond, ◌&&◌, List, [], ◌∷◌, ◌++◌, length, drop, Some, None, Ok, Err, fold, Option, Result, ◌==◌, nat_le, nat_lt, slice_index_or}
 use Rattle.model.specs.Shape.{leaving}
 use Rattle.model.specs.declared.link.Link as link
 use Rattle.model.specs.declared.opening.Opening.{Opening}

@@ -1,5 +1,5 @@
 -- What a field of a record means, one by one.
-use Rattle.std.specs.Prelude.{ℕ, Bool, true, false, cond, ◌&&◌, List, length, Some, None, Ok, Err, Option, Result, ◌==◌, nat_eq, nat_le, nat_lt}
+use Rattle.std.specs.Prelude.{ℕ, Bool, false, cond, ◌&&◌, List, length, Some, None, Ok, Err, Option, Result, ◌==◌, nat_eq, nat_le, nat_lt}
 use Rattle.std.specs.Result.{result_map_both}
 use Rattle.model.specs.Lists.{at, is_none}
 use Rattle.model.specs.declared.link.Link.{Link}

@@ -6,7 +6,6 @@ use Rattle.road.specs.declared.signal.Signal.{Signal}
 use Rattle.road.specs.Signals.{signal_of}
 use Rattle.packet.specs.declared.switch.Switch.{Switch}
 use Rattle.packet.specs.Switches.{switch_of}
-use Rattle.model.specs.declared.reading.FieldFault.{FieldFault}
 use Rattle.model.specs.declared.reading.Problem.TheVariants.{OutOfRange}
 use Rattle.model.specs.declared.reading.RecordFault.{RecordFault}
 use Rattle.model.specs.declared.reading.RecordFault.TheVariants.{InField}

@@ -1,5 +1,5 @@
 -- The bytes of a log and of a refusal: 13 is CR, 10 is LF, 44 is the comma.
-use Rattle.std.specs.Prelude.{◌≡◌, ℕ, ◌<◌, true, false, List, [], ◌∷◌, ◌++◌, length, drop, Ok, Err, codes, Option, Result}
+use Rattle.std.specs.Prelude.{◌≡◌, ℕ, ◌<◌, List, [], ◌∷◌, ◌++◌, length, drop, Ok, Err, codes, Option, Result}
 use Rattle.exit.specs.Limits.{made_if}
 use Rattle.model.specs.declared.record.Record.{Record}
 use Rattle.model.specs.declared.reading.LineFault.{LineFault}

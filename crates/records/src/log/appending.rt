@@ -39,7 +39,7 @@ pub fn append_refusal<R: Numbered>(
     heap: Global,
     refusal: &R,
 ) -> Result<(), AllocError>
-    ensures { out.new.items ≡ (if is_ok result then out.old.items ++ number_line (numbers refusal.now) else out.old.items) }
+    ensures { out.new.items ≡ (if is_ok result then out.old.items ++ number_line (R.numbers refusal.now) else out.old.items) }
 {
     let numbers = refusal.numbers(heap)?;
     append_numbers(out, heap, numbers.as_slice())

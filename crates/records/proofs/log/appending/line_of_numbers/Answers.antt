@@ -4,16 +4,16 @@ use Rattle.text.specs.Decimal.{digits}
 use Rattle.records.specs.LogText.{between_commas, line_end}
 use Rattle.records.proofs.Numbers.{first_number, next_number}
 use Rattle.records.proofs.log.appending.line_of_numbers.Goals as goal
-use Rattle.records.proofs.log.appending.line_of_numbers.Goals.{then-i-gt0+in-ok-push, else-i-gt0}
+use Rattle.records.proofs.log.appending.line_of_numbers.Goals.{then-i-gt0+in_ok-push, else-i-gt0}
 
 pub loop-i-preserved : goal.loop-i-preserved
 loop-i-preserved c =
     let ns : List ℕ = c.args.numbers.now in
-    let a = c.in-ok-append-number.ensures.items in
+    let a = c.in_ok-append_number.ensures.items in
     let lt = c.loop-i-test.true in
     elim c.if-i-gt0.branch [
-      | then-i-gt0+in-ok-push w ↦
-          let b = w.in-ok-push.ensures.items in
+      | then-i-gt0+in_ok-push w ↦
+          let b = w.in_ok-push.ensures.items in
           let e = next_number ns c.loop-i.i w.if-i-gt0.true lt in
           let h = c.loop-i.invariant in
           let i = w.line-is in
@@ -27,6 +27,6 @@ loop-i-preserved c =
 
 pub returns : goal.returns
 returns c =
-    c.in-ok-extend-from-slice.ensures.items
+    c.in_ok-extend_from_slice.ensures.items
     ∙ ap (λ (x : List ℕ). x ++ line_end)
     (c.loop-i.invariant ∙ ap between_commas (take_all c.loop-i.i c.args.numbers.now (omega arith)))

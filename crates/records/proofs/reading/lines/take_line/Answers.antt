@@ -4,8 +4,8 @@ use Rattle.records.specs.Adding.{record_taken, cut_taken}
 use Rattle.records.proofs.FewFields.{few_fields, nine_held}
 use Rattle.records.proofs.reading.lines.take_line.Goals as goal
 
-pub overflow-cast-field : goal.overflow-cast-field
-overflow-cast-field g c =
+pub overflow_cast-field : goal.overflow_cast-field
+overflow_cast-field g c =
     omega (arith, c.in-Err.ensures.answer.1, few_fields c.in-Err.ensures.grammar.parted, c.requires)
 
 pub returns-then-count-eq9 : goal.returns-then-count-eq9
@@ -13,7 +13,7 @@ returns-then-count-eq9 g c =
     let k = cut_line c.args.bytes.now in
     let cuts = c.in-Ok.ensures in
     let n : length (found k) ≡ 9 = sym cuts.answer.1 ∙ c.if-count-eq9.true in
-    let t = c.take-record.ensures in
+    let t = c.take_record.ensures in
     record {
       items = t.items
           ∙ ap (λ (fs : List (List ℕ)). record_taken g.P.ProcessKind.processed g.P.ProcessKind.loaded

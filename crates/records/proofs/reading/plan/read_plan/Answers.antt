@@ -1,4 +1,4 @@
-use Rattle.std.proofs.Common.{◌≡◌, vec_items, vec_capacity, sym, ap, ◌∙◌, arith}
+use Rattle.std.proofs.Common.{vec_items, vec_capacity, sym, ap, ◌∙◌, arith}
 use Rattle.road.specs.declared.kind.RoadKind.{RoadKind}
 use Rattle.road.specs.declared.vehicle.Vehicle.{Vehicle}
 use Rattle.packet.specs.declared.kind.PacketKind.{PacketKind}
@@ -9,8 +9,8 @@ use Rattle.records.proofs.FewFields.{line_short}
 use Rattle.records.proofs.Planned.{planned}
 use Rattle.records.proofs.reading.plan.read_plan.Goals as goal
 
-pub read-first-requires : goal.read-first-requires
-read-first-requires c = omega (arith, line_short _ _ _ c.in-Some.ensures, c.if-text-gt65536.false)
+pub read_first-requires : goal.read_first-requires
+read_first-requires c = omega (arith, line_short _ _ _ c.in-Some.ensures, c.if-text-gt65536.false)
 
 pub returns-in-Road : goal.returns-in-Road
 returns-in-Road c =
@@ -18,9 +18,9 @@ returns-in-Road c =
     let held : Held = record { roads = vec_items c.args.roads.now; vehicles = vec_items c.args.vehicles.now; switches = vec_items c.args.switches.now; frames = vec_items c.args.frames.now; links = vec_items c.args.links.now; quotas = vec_items c.args.quotas.now } in
     let filled : FamilyRead RoadKind Vehicle → PlanRead =
     λ q. (record { roads = q.0; vehicles = q.3; switches = vec_items c.args.switches.now; frames = vec_items c.args.frames.now; links = q.1; quotas = q.2 }, q.4) in
-    ap filled c.read-family.ensures
-    ∙ sym (planned room c.args.text.now c.in-Some.first.now c.in-Some.rest.now held c.in-ok-net.net Road
-    c.if-text-gt65536.false c.in-Some.ensures c.in-ok-net.ensures c.in-Road.is)
+    ap filled c.read_family.ensures
+    ∙ sym (planned room c.args.text.now c.in-Some.first.now c.in-Some.rest.now held c.in_ok-net.net Road
+    c.if-text-gt65536.false c.in-Some.ensures c.in_ok-net.ensures c.in-Road.is)
 
 pub returns-in-Switch : goal.returns-in-Switch
 returns-in-Switch c =
@@ -28,6 +28,6 @@ returns-in-Switch c =
     let held : Held = record { roads = vec_items c.args.roads.now; vehicles = vec_items c.args.vehicles.now; switches = vec_items c.args.switches.now; frames = vec_items c.args.frames.now; links = vec_items c.args.links.now; quotas = vec_items c.args.quotas.now } in
     let filled : FamilyRead PacketKind Frame → PlanRead =
     λ q. (record { roads = vec_items c.args.roads.now; vehicles = vec_items c.args.vehicles.now; switches = q.0; frames = q.3; links = q.1; quotas = q.2 }, q.4) in
-    ap filled c.read-family-in-Switch.ensures
-    ∙ sym (planned room c.args.text.now c.in-Some.first.now c.in-Some.rest.now held c.in-ok-net.net Switch
-    c.if-text-gt65536.false c.in-Some.ensures c.in-ok-net.ensures c.in-Switch.is)
+    ap filled c.read_family-in-Switch.ensures
+    ∙ sym (planned room c.args.text.now c.in-Some.first.now c.in-Some.rest.now held c.in_ok-net.net Switch
+    c.if-text-gt65536.false c.in-Some.ensures c.in_ok-net.ensures c.in-Switch.is)
