@@ -1,5 +1,5 @@
 -- A store of a plan has its links, fresh and without a delay.
-use Rattle.std.proofs.Common.{◌≡◌, ℕ, zero, suc, ◌*◌, ◌/◌, ◌≤◌, Bool, true, cond, sym, refl, ap, ◌∙◌, subst, mul_comm, mul-le-mul_left, arith}
+use Rattle.std.proofs.Common.{◌≡◌, ℕ, zero, suc, ◌*◌, ◌/◌, Bool, true, cond, sym, refl, ap, ◌∙◌, subst, mul_comm, mul-le-mul_left, arith}
 use Rattle.std.proofs.lemmas.Bool.Decides.{nat_tests}
 use Rattle.model.specs.Pile.{Pile}
 use Rattle.slots.specs.Empty.{suitable, empty}
@@ -33,6 +33,6 @@ ring_unset {C} (suc links) places w =
     subst (λ b. Unset (suc links) (made b)) (sym (suits links places w)) (empty_unset (suc links) room)
 
 -- A ring made for so many links, with so many slots, by other names.
-pub ring_made : {C : Type 0} {m : Pile C} {links count slots places : ℕ} → m ≡ ring.opened count slots → count ≡ links → slots ≡ count * places
+pub ring_made : {C : Type 0} {m : Pile C} {links count slots : ℕ} (places : ℕ) → m ≡ ring.opened count slots → count ≡ links → slots ≡ count * places
     → m ≡ ring.opened links (links * places)
-ring_made {C} {m} {links} {count} {slots} {places} e f h = e ∙ ap (ring.opened count) h ∙ ap (λ n. ring.opened n (n * places)) f
+ring_made {C} {m} {links} {count} {slots} places e f h = e ∙ ap (ring.opened count) h ∙ ap (λ n. ring.opened n (n * places)) f

@@ -1,5 +1,5 @@
 -- A net that is prepared and run until quiet follows the simulation.
-use Rattle.std.proofs.Common.{◌≡◌, ℕ, ◌≤◌, true, List, [], ◌∷◌, Ok, subst}
+use Rattle.std.proofs.Common.{◌≡◌, ℕ, List, [], Ok, subst}
 use Rattle.model.specs.declared.opening.Opening.{Opening}
 use Rattle.model.specs.Pile.{Pile}
 use Rattle.model.specs.Shape.{Shape}

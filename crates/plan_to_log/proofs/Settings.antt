@@ -1,11 +1,11 @@
 -- The settings of a plan suit its links, so no layer refuses them.
-use Rattle.std.proofs.Common.{◌≡◌, ℕ, zero, suc, ◌+◌, ◌<◌, ◌≤◌, true, List, [], ◌∷◌, map, length, get_or, drop, set, Some, None, Err, Option, sym, refl, ap, ◌∙◌, subst, arith}
+use Rattle.std.proofs.Common.{◌≡◌, ℕ, zero, suc, ◌+◌, ◌<◌, ◌≤◌, true, List, [], ◌∷◌, map, length, get_or, drop, set, Some, None, Err, Option, refl, ap, ◌∙◌, subst, arith}
 use Rattle.std.proofs.lemmas.List.{at_drop_more}
 use Rattle.model.specs.declared.fault.SettingFault.{SettingFault}
 use Rattle.model.specs.declared.fault.SettingFault.TheVariants.{NoSuchLink, Unsuitable}
 use Rattle.model.specs.declared.link.Link.{Link}
 use Rattle.model.specs.Lists.{at}
-use Rattle.model.specs.Pile.{Pile, Fresh}
+use Rattle.model.specs.Pile.{Pile}
 use Rattle.model.specs.Shape.{Shape, delay_of, within}
 use Rattle.simulation.proofs.PlanLimits.{delay_below}
 use Rattle.layers.specs.Layer.{Setting}

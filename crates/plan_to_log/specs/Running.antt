@@ -1,5 +1,5 @@
 -- What becomes of a net that is run until quiet.
-use Rattle.std.specs.Prelude.{◌≡◌, ℕ, suc, Bool, true, false, List, [], ◌∷◌, ◌++◌, Ok, Err, vec_items, Result}
+use Rattle.std.specs.Prelude.{◌≡◌, ℕ, suc, true, false, List, [], ◌∷◌, ◌++◌, Ok, Err, vec_items}
 use Rattle.model.specs.declared.answer.Passed.{Passed}
 use Rattle.model.specs.declared.answer.Stepped.{Stepped}
 use Rattle.model.specs.declared.refusal.Refusal.{Refusal}
@@ -16,7 +16,6 @@ use Rattle.simulation.specs.Law.{Follows}
 use Rattle.plan_to_log.specs.declared.output.Standing.{Standing}
 use Rattle.plan_to_log.specs.declared.output.Ending.{Ending}
 use Rattle.plan_to_log.specs.declared.output.Ending.TheVariants.{NotRead, NotPrepared, Finished, Unfinished}
-use Rattle.plan_to_log.specs.declared.output.Output.{Output}
 use Rattle.plan_to_log.specs.Histories.{log_text}
 
 -- The log of a run has room for so many records.

@@ -1,7 +1,6 @@
 -- The links of a run: delay over quota over a store, each link set as planned.
-use Rattle.std.specs.Prelude.{◌≡◌, ℕ, ◌+◌, ◌<◌, ◌≤◌, List, [], ◌∷◌, length, get_or, set, replicate, Some, None, Option, slice_index_or, slice_set}
+use Rattle.std.specs.Prelude.{◌≡◌, ℕ, ◌+◌, ◌<◌, ◌≤◌, List, [], ◌∷◌, length, get_or, replicate, Some, None, Option, slice_index_or, slice_set}
 use Rattle.model.specs.declared.link.Link.{Link}
-use Rattle.model.specs.Lists.{at}
 use Rattle.model.specs.Pile.{Pile, Fresh}
 use Rattle.layers.specs.Delayed.{delayed}
 use Rattle.layers.specs.Rationed.{rationed}

@@ -1,11 +1,11 @@
-use Rattle.std.proofs.Common.{◌≡◌, List, ◌++◌, vec_items, sym, ap, ◌∙◌, append-nil, arith}
+use Rattle.std.proofs.Common.{◌++◌, vec_items, sym, ap, ◌∙◌, append-nil, arith}
 use Rattle.std.proofs.lemmas.List.{at_drop_all}
 use Rattle.simulation.specs.View.{history}
 use Rattle.kernel.proofs.Recorded.{history_skips}
 use Rattle.plan_to_log.specs.Histories.{lines_from}
 use Rattle.plan_to_log.proofs.Lines.{line_next}
 use Rattle.plan_to_log.proofs.histories.append_history.Goals as goal
-use Rattle.plan_to_log.proofs.histories.append_history.Goals.{then-record-process+in-ok-append-record, else-record-process}
+use Rattle.plan_to_log.proofs.histories.append_history.Goals.{then-record-process+in_ok-append_record, else-record-process}
 
 pub loop-record-preserved : goal.loop-record-preserved
 loop-record-preserved c =
@@ -15,8 +15,8 @@ loop-record-preserved c =
     let lt = c.loop-record-test.true in
     let inv = c.loop-record.invariant in
     elim c.if-record-process.branch [
-      | then-record-process+in-ok-append-record w ↦
-          let line = w.in-ok-append-record.ensures in
+      | then-record-process+in_ok-append_record w ↦
+          let line = w.in_ok-append_record.ensures in
           let next = line_next p log i c.loop-record.n _ (vec_items c.loop-record.out) lt w.if-record-process.true in
           let out = ap vec_items w.out-is in
           let n = w.n-is in

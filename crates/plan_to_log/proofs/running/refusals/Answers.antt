@@ -3,7 +3,7 @@ use Rattle.simulation.specs.Programs.{program_of}
 use Rattle.kernel.specs.OfRun.{view_of}
 use Rattle.plan_to_log.proofs.Refused.{none_yet, all_stepped, passes_on, goes_on, stands_there}
 use Rattle.plan_to_log.proofs.running.refusals.Goals as goal
-use Rattle.plan_to_log.proofs.running.refusals.Goals.{in-Ok+in-Err+in-ok-push, in-Ok+in-default-step, in-default}
+use Rattle.plan_to_log.proofs.running.refusals.Goals.{in-Ok+in-Err+in_ok-push, in-Ok+in_default-step, in_default}
 
 pub loop-process-init : goal.loop-process-init
 loop-process-init g c =
@@ -15,13 +15,13 @@ loop-process-preserved g c =
     let view = view_of g.L.Links.meaning in
     let first = view c.args.run.now in
     elim c.match-clock.branch [
-      | in-Ok+in-Err+in-ok-push w ↦
-          stands_there program first (ap vec_items w.standing-is ∙ w.in-ok-push.ensures.items) (ap view w.run-is)
+      | in-Ok+in-Err+in_ok-push w ↦
+          stands_there program first (ap vec_items w.standing-is ∙ w.in_ok-push.ensures.items) (ap view w.run-is)
           c.loop-process.invariant w.in-Ok.ensures.outcome.0 w.in-Err.ensures.called.outcome
-      | in-Ok+in-default-step w ↦
-          goes_on program first (ap vec_items w.standing-is) (ap view w.run-is) c.loop-process.invariant w.in-default-step.ensures.called.outcome
-      | in-default w ↦
-          passes_on program first (ap vec_items w.standing-is) (ap view w.run-is) c.loop-process.invariant w.in-default.ensures.outcome.0
+      | in-Ok+in_default-step w ↦
+          goes_on program first (ap vec_items w.standing-is) (ap view w.run-is) c.loop-process.invariant w.in_default-step.ensures.called.outcome
+      | in_default w ↦
+          passes_on program first (ap vec_items w.standing-is) (ap view w.run-is) c.loop-process.invariant w.in_default.ensures.outcome.0
     ]
 
 pub returns : goal.returns

@@ -10,9 +10,9 @@ pub returns-in-Ok : goal.returns-in-Ok
 returns-in-Ok g c =
     let program = program_of g.C.Cargo g.P.Process in
     let within = g.met.P.Process.within in
-    IfOk-weaker c.run-out.result _ _
+    IfOk-weaker c.run_out.result _ _
     (λ o out. ran program
     (law program g.met.P.Process.constant (λ n. reaching program n (λ s. (within s).0)))
     (rests program (λ s. (within s).1))
     _ _ o.ending c.processes-count.ensures.is c.in-Ok.ensures.0 c.in-Ok.ensures.1 out)
-    c.run-out.ensures
+    c.run_out.ensures

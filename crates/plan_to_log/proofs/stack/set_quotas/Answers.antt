@@ -1,9 +1,9 @@
-use Rattle.std.proofs.Common.{◌≡◌, ℕ, ◌+◌, ◌<◌, List, length, drop, Some, None, Option, sym, ap, ◌∙◌, subst}
+use Rattle.std.proofs.Common.{ℕ, ◌+◌, ◌<◌, List, length, drop, Option, sym, ap, ◌∙◌, subst}
 use Rattle.std.proofs.lemmas.List.{at_drop_all}
 use Rattle.plan_to_log.specs.Stack.{quotas_from, quota_at, Unset, QuotaWithin}
 use Rattle.plan_to_log.proofs.Settings.{not_refused, quota_suits, quotas_next}
 use Rattle.plan_to_log.proofs.stack.set_quotas.Goals as goal
-use Rattle.plan_to_log.proofs.stack.set_quotas.Goals.{in-Some+in-Ok, in-default}
+use Rattle.plan_to_log.proofs.stack.set_quotas.Goals.{in-Some+in-Ok, in_default}
 
 pub loop-link-preserved : goal.loop-link-preserved
 loop-link-preserved g c =
@@ -19,9 +19,9 @@ loop-link-preserved g c =
             ap (λ l. l.below) w.layer-is ∙ done.below ∙ inv.0,
             ap rest (ap (λ l. l.left) w.layer-is ∙ done.table.2 ∙ sym (ap given w.in-Some.is)) ∙ sym next ∙ inv.1,
           )
-      | in-default w ↦ (
+      | in_default w ↦ (
         ap (λ l. l.below) w.layer-is ∙ inv.0,
-        ap rest (ap (λ l. l.left) w.layer-is ∙ sym (ap given w.in-default.is)) ∙ sym next ∙ inv.1,
+        ap rest (ap (λ l. l.left) w.layer-is ∙ sym (ap given w.in_default.is)) ∙ sym next ∙ inv.1,
       )
     ]
 

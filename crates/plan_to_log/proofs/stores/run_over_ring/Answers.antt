@@ -7,10 +7,10 @@ use Rattle.plan_to_log.proofs.FreshStores.{ring_unset, ring_made}
 use Rattle.plan_to_log.proofs.RunOut.{ran_over}
 use Rattle.plan_to_log.proofs.stores.run_over_ring.Goals as goal
 
-pub run-over-requires : goal.run-over-requires
-run-over-requires g c =
-    let made = ring_made c.new.ensures (c.len-links.ensures ∙ c.args.reading.links.ok.0)
-    (ap length c.as-mut-slice.ensures.value ∙ c.in-ok-slots.ensures) in
+pub run_over-requires : goal.run_over-requires
+run_over-requires g c =
+    let made = ring_made _ c.new.ensures (c.len-links.ensures ∙ c.args.reading.links.ok.0)
+    (ap length c.as_mut_slice.ensures.value ∙ c.in_ok-slots.ensures) in
     record {
       unset = subst (Unset (length (vec_items c.args.reading.links))) (sym made) (ring_unset _ _ c.requires.places);
       sensible = c.requires;
@@ -18,8 +18,8 @@ run-over-requires g c =
 
 pub returns : goal.returns
 returns g c =
-    let made = ring_made c.new.ensures (c.len-links.ensures ∙ c.args.reading.links.ok.0)
-    (ap length c.as-mut-slice.ensures.value ∙ c.in-ok-slots.ensures) in
+    let made = ring_made _ c.new.ensures (c.len-links.ensures ∙ c.args.reading.links.ok.0)
+    (ap length c.as_mut_slice.ensures.value ∙ c.in_ok-slots.ensures) in
     IfOk-weaker c.run_over.result _ _
     (λ o. ran_over (program_of g.C.Cargo g.P.Process) (reading_net c.args.reading) (vec_items o.text) o.ending
     (ap (reading_over c.args.reading) made))
