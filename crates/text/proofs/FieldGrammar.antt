@@ -1,6 +1,6 @@
 -- A line is cut as its grammar parts it.
 use Rattle.std.proofs.Common.{◌≡◌, ℕ, List, [], ◌∷◌, ◌++◌, sym, refl, ap, ◌∙◌, subst, append_assoc, arith}
-use Rattle.std.specs.List.{AllByRecursion as All}
+use Rattle.std.specs.List.{AllByRecursion}
 use Rattle.std.proofs.ByRecursion.{All-push}
 use Rattle.std.proofs.lemmas.List.{append-nil}
 use Rattle.std.proofs.lemmas.Bool.Decides.{nat_tests}
@@ -13,7 +13,7 @@ use Rattle.text.specs.declared.fields.State.TheVariants.{Start, Plain, Quoted, A
 use Rattle.text.proofs.FieldSteps.{by_step, onward}
 
 -- bytes that a field keeps are read one after another
-runs : (s : State) (P : ℕ → Type 0) → ((b : ℕ) → P b → keeps s ≡ step s b) → (field sofar rest : List ℕ) → All P field
+runs : (s : State) (P : ℕ → Type 0) → ((b : ℕ) → P b → keeps s ≡ step s b) → (field sofar rest : List ℕ) → AllByRecursion P field
     → cut s sofar (field ++ rest) ≡ cut s (sofar ++ field) rest
 runs s P k [] sofar rest h = ap (λ f. cut s f rest) (sym (append-nil sofar))
 runs s P k (b ∷ field) sofar rest h =
@@ -30,19 +30,19 @@ plain_keeps b h = grind (arith, nat_tests)
 quoted_keeps : (b : ℕ) → Quotable b → keeps Quoted ≡ step Quoted b
 quoted_keeps b h = grind (arith, nat_tests)
 
-read_bare : (b : ℕ) (field rest : List ℕ) → All Bare (b ∷ field) → cut_line (b ∷ field ++ rest) ≡ cut Plain (b ∷ field) rest
+read_bare : (b : ℕ) (field rest : List ℕ) → AllByRecursion Bare (b ∷ field) → cut_line (b ∷ field ++ rest) ≡ cut Plain (b ∷ field) rest
 read_bare b field rest h =
     by_step Start [] b (field ++ rest) (keeps Plain) (start_keeps b h.0)
     ∙ runs Plain Bare plain_keeps field (b ∷ []) rest h.1
 
-read_quoted : (field rest : List ℕ) → All Quotable field → cut_line (34 ∷ field ++ 34 ∷ rest) ≡ cut AfterQuote field rest
+read_quoted : (field rest : List ℕ) → AllByRecursion Quotable field → cut_line (34 ∷ field ++ 34 ∷ rest) ≡ cut AfterQuote field rest
 read_quoted field rest h = runs Quoted Quotable quoted_keeps field [] (34 ∷ rest) h
 
-last_bare : (field : List ℕ) → All Bare field → cut_line field ≡ whole (field ∷ [])
+last_bare : (field : List ℕ) → AllByRecursion Bare field → cut_line field ≡ whole (field ∷ [])
 last_bare [] h = refl
 last_bare (b ∷ bs) h = ap cut_line (sym (append-nil (b ∷ bs))) ∙ read_bare b bs [] h
 
-more_bare : (field rest : List ℕ) → All Bare field → cut_line (field ++ 44 ∷ rest) ≡ onto field (cut_line rest)
+more_bare : (field rest : List ℕ) → AllByRecursion Bare field → cut_line (field ++ 44 ∷ rest) ≡ onto field (cut_line rest)
 more_bare [] rest h = refl
 more_bare (b ∷ bs) rest h = read_bare b bs (44 ∷ rest) h
 
@@ -77,9 +77,9 @@ faulty line e =
 -- how the field so far is written, at each state
 abbrev Begun : State → List ℕ → List ℕ → Type 0
 Begun Start field text = (field ≡ []) × (text ≡ [])
-Begun Plain field text = All Bare field × (text ≡ field)
-Begun Quoted field text = All Quotable field × (text ≡ 34 ∷ field)
-Begun AfterQuote field text = All Quotable field × (text ≡ 34 ∷ field ++ 34 ∷ [])
+Begun Plain field text = AllByRecursion Bare field × (text ≡ field)
+Begun Quoted field text = AllByRecursion Quotable field × (text ≡ 34 ∷ field)
+Begun AfterQuote field text = AllByRecursion Quotable field × (text ≡ 34 ∷ field ++ 34 ∷ [])
 
 module _ (field text : List ℕ) (b : ℕ) where
   opened : (s : State) → Begun s field text → opens ≡ step s b → Begun Quoted [] (text ++ b ∷ [])
@@ -95,7 +95,7 @@ module _ (field text : List ℕ) (b : ℕ) where
       let same : Plain ≡ t = cc in
       let alone : b ∷ [] ≡ field ++ b ∷ [] = ap (λ f. f ++ b ∷ []) (sym g.0) in
       subst (λ u. Begun u (field ++ b ∷ []) (text ++ b ∷ [])) same
-      (subst (All Bare) alone (q, tt), ap (λ x. x ++ b ∷ []) (g.1 ∙ sym g.0))
+      (subst (AllByRecursion Bare) alone (q, tt), ap (λ x. x ++ b ∷ []) (g.1 ∙ sym g.0))
   kept Plain t g e =
       let p : keeps t ≡ keeps Plain = grind (arith, nat_tests) in
       let q : Bare b = grind (arith, nat_tests) in
@@ -124,7 +124,7 @@ ended AfterQuote b e = (grind (arith, nat_tests), λ q. grind arith)
 
 -- a field is written, unless a quote is open
 written : (s : State) (field text : List ℕ) → Begun s field text → (s ≡ Quoted → ⊥) → Written field text
-written Start field text g n = subst (λ t. Written field t) (g.0 ∙ sym g.1) (bare (subst (All Bare) (sym g.0) tt))
+written Start field text g n = subst (λ t. Written field t) (g.0 ∙ sym g.1) (bare (subst (AllByRecursion Bare) (sym g.0) tt))
 written Plain field text g n = subst (λ t. Written field t) (sym g.1) (bare g.0)
 written Quoted field text g n = absurd (n refl)
 written AfterQuote field text g n = subst (λ t. Written field t) (sym g.1) (quoted g.0)

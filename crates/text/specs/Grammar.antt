@@ -1,6 +1,6 @@
 -- What the fields of a line are, said without a reader: 34 is the quote, 44 the comma.
 use Rattle.std.specs.Prelude.{◌≡◌, ℕ, ◌≤◌, List, [], ◌∷◌, ◌++◌, ◌≢◌}
-use Rattle.std.specs.List.{AllByRecursion as All}
+use Rattle.std.specs.List.{AllByRecursion}
 use Rattle.text.specs.Fields.{Cut, whole, broken, cut_line, onto}
 
 -- a byte that may stand in quotes
@@ -13,8 +13,8 @@ Bare b = Quotable b × (b ≢ 44)
 
 -- how a field is written: as it is, or in quotes
 pub data Written : List ℕ → List ℕ → Type 0 where
-  bare : {field : List ℕ} → All Bare field → Written field field
-  quoted : {field : List ℕ} → All Quotable field → Written field (34 ∷ field ++ 34 ∷ [])
+  bare : {field : List ℕ} → AllByRecursion Bare field → Written field field
+  quoted : {field : List ℕ} → AllByRecursion Quotable field → Written field (34 ∷ field ++ 34 ∷ [])
 
 -- bytes that begin with no field: none reaches to their end or to a comma
 abbrev pub NoField : List ℕ → Type 0
