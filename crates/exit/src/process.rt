@@ -12,9 +12,9 @@ impl<C: Cargo> Process<C> for Exit {
 
     ghost rule = { exit_rule };
 
-    ghost within = { first_of (Prim.search rules, Prim.grind (arith, Self.row.coded.inj)) };
+    ghost within = { Prim.search rules };
 
-    ghost constant = { first_of (Prim.search rules, Prim.grind (arith, Self.row.coded.inj)) };
+    ghost constant = { Prim.search rules };
 
     fn lookahead(&self) -> u32 {
         self.lookahead

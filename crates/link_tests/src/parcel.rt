@@ -21,9 +21,9 @@ impl Parcel {
 impl Cargo for Parcel {
     ghost code = { λ x. x.number };
 
-    ghost small = { first_of (Prim.search rules, Prim.grind (arith, Self.row.coded.inj)) };
+    ghost small = { Prim.search rules };
 
-    ghost distinct = { first_of (Prim.search rules, Prim.grind (arith, Self.row.coded.inj)) };
+    ghost distinct = { Prim.grind (arith, Self.row.coded.inj) };
 
     fn code(&self) -> u32 {
         self.number

@@ -10,7 +10,7 @@ use model::cargo::Cargo;
 impl Cargo for Frame {
     ghost code = { frame_code };
 
-    ghost small = { first_of (Prim.search rules, Prim.grind (arith, Self.row.coded.inj)) };
+    ghost small = { Prim.search rules };
 
     ghost distinct = { λ x y e.
         let to : x.destination ≡ y.destination = Prim.search rules in

@@ -25,9 +25,9 @@ impl Process<Frame> for Switch {
 
     ghost rule = { switch_rule };
 
-    ghost within = { first_of (Prim.search rules, Prim.grind (arith, Self.row.coded.inj)) };
+    ghost within = { Prim.search rules };
 
-    ghost constant = { first_of (Prim.search rules, Prim.grind (arith, Self.row.coded.inj)) };
+    ghost constant = { Prim.search rules };
 
     fn lookahead(&self) -> u32 {
         self.lookahead

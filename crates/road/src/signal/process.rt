@@ -30,9 +30,9 @@ impl Process<Vehicle> for Signal {
 
     ghost rule = { signal_rule };
 
-    ghost within = { first_of (Prim.search rules, Prim.grind (arith, Self.row.coded.inj)) };
+    ghost within = { Prim.search rules };
 
-    ghost constant = { first_of (Prim.search rules, Prim.grind (arith, Self.row.coded.inj)) };
+    ghost constant = { Prim.search rules };
 
     fn lookahead(&self) -> u32 {
         self.settings.lookahead

@@ -10,7 +10,7 @@ use model::cargo::Cargo;
 impl Cargo for Vehicle {
     ghost code = { vehicle_code };
 
-    ghost small = { first_of (Prim.search rules, Prim.grind (arith, Self.row.coded.inj)) };
+    ghost small = { Prim.search rules };
 
     ghost distinct = { λ x y e.
         let class : x.class ≡ y.class = Prim.search rules in
