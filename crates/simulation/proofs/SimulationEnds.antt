@@ -14,7 +14,7 @@ use Rattle.simulation.specs.Simulation.{stop_process, take_event, settle, act, t
 use Rattle.simulation.specs.Prepare.{Limits}
 use Rattle.simulation.specs.Law.{Over}
 use Rattle.simulation.proofs.Tests.{none_is_some, update_same, update_is, update_other, update_cases}
-use Rattle.simulation.proofs.Sums.{total_drop, total_rise, total_most}
+use Rattle.simulation.proofs.Sums.{total_drop, total_rise, total_ones}
 use Rattle.simulation.proofs.Places.{at_there}
 use Rattle.simulation.proofs.Breaches.{breach_none}
 use Rattle.simulation.proofs.PlanLimits.{target_there, target_below}
@@ -89,7 +89,7 @@ module _ {C P : Type 0} (g : Program C P) (net : Net C P) where
   start_weight : weight (start net) ≤ enough g net
   start_weight =
       let a = opening_load net.opening in
-      let b = total_most net.plan.processes (λ p. one_if {C = C} None) 1 (λ p. omega arith) in
+      let b = total_ones net.plan.processes (λ p. one_if {C = C} None) (λ p. omega arith) in
       omega arith
 
   module _ (same : Constant g) (far : Reaching g net) (limits : Limits net) (s : Sim C P) (alive : Alive s) (c : Choice C) (pending : Pending net s c) where

@@ -37,3 +37,7 @@ total_tight n f g l e p q = by_cases (ℕ_discrete (f p) (g p)) (λ o. o)
 pub total_most : (n : ℕ) (f : ℕ → ℕ) (b : ℕ) → ((p : ℕ) → f p ≤ b) → total n f ≤ n * b
 total_most zero f b l = omega arith
 total_most (suc n) f b l = let i = total_most n f b l in let j = l n in omega arith
+
+-- Parts of one at most make a sum of n at most.
+pub total_ones : (n : ℕ) (f : ℕ → ℕ) → ((p : ℕ) → f p ≤ 1) → total n f ≤ n
+total_ones n f l = let m = total_most n f 1 l in omega arith
