@@ -93,7 +93,7 @@ pub fn read_plan(
     links: &mut Vec<Link>,
     quotas: &mut Vec<Option<u32>>,
 ) -> Result<Net, PlanFault>
-    ensures { ◌≡◌ {A = PlanRead} (record { roads = roads.exit.now.items; vehicles = vehicles.new.items; switches = switches.new.items; frames = frames.new.items; links = links.new.items; quotas = quotas.new.items }, result) (plan_of (record { roads = vec_capacity roads.entry.now; vehicles = vec_capacity vehicles.old; switches = vec_capacity switches.old; frames = vec_capacity frames.old; links = vec_capacity links.old; quotas = vec_capacity quotas.old }) text.now (record { roads = roads.entry.now.items; vehicles = vehicles.old.items; switches = switches.old.items; frames = frames.old.items; links = links.old.items; quotas = quotas.old.items })) }
+    ensures { ◌≡◌ {A = PlanRead} (record { roads = roads.new.items; vehicles = vehicles.new.items; switches = switches.new.items; frames = frames.new.items; links = links.new.items; quotas = quotas.new.items }, result) (plan_of (record { roads = vec_capacity roads.old; vehicles = vec_capacity vehicles.old; switches = vec_capacity switches.old; frames = vec_capacity frames.old; links = vec_capacity links.old; quotas = vec_capacity quotas.old }) text.now (record { roads = roads.old.items; vehicles = vehicles.old.items; switches = switches.old.items; frames = frames.old.items; links = links.old.items; quotas = quotas.old.items })) }
 {
     if text.len() > 65_536 {
         return Err(PlanFault::TooLong);

@@ -14,7 +14,9 @@ use slots::MOST_LINKS;
 
 // The place `after` places after the head, round the end of a part of so many slots.
 fn place(size: u32, head: u32, after: u32) -> u32
-    requires { (head < size) × ((after ≤ size) × (size ≤ 65535)) }
+    requires inside { head < size }
+    requires within { after ≤ size }
+    requires wide { size ≤ 65535 }
     ensures { result ≡ around size head after }
 {
     let straight = head + after;
@@ -86,7 +88,8 @@ impl<'a, C: Cargo> Ring<'a, C> {
 
     // The slot that lies `after` places after the head of a link.
     fn slot(&self, link: usize, after: u32) -> usize
-        requires { (link < self.now.links) × (after < self.now.size) }
+        requires there { link < self.now.links }
+        requires within { after < self.now.size }
         ensures is { result ≡ spot self.now.size link (row self.now.lanes link).head after }
         ensures inside { result < length self.now.slots.now }
     {

@@ -4,5 +4,5 @@ use Rattle.ring.proofs.store.Ring.slot.Goals as goal
 
 pub returns : goal.returns
 returns g c =
-    let h = spot_inside c.args.self.now c.args.link c.requires.0 c.args.after (omega arith) in
+    let h = spot_inside c.args.self.now c.args.link c.requires.there c.args.after (omega arith) in
     record { is = omega arith; inside = omega arith }

@@ -7,7 +7,7 @@ use Rattle.ring.proofs.store.calls.RingLinks.take.Goals as goal
 pub place-head-requires : goal.place-head-requires
 place-head-requires g c =
     let w = c.args.self.now.within c.args.link c.in_ok-event.ensures.0 in
-    (w.0, (omega (arith, w.0), c.args.self.now.wide))
+    record { inside = w.0; within = omega (arith, w.0); wide = c.args.self.now.wide }
 
 pub overflow_sub-self : goal.overflow_sub-self
 overflow_sub-self g c =
