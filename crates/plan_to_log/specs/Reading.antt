@@ -20,7 +20,7 @@ shaped horizon processes links = record { horizon = horizon; processes = process
 abbrev pub net_of : {C P : Type 0} → header.Net → List P → List Link → List (Opening C) → Net C P
 net_of h processes links opening = record { plan = shaped h.horizon (length processes) links; processes = processes; opening = opening }
 
--- The store that a plan names, with so many places for each of so many links.
+-- The store that a plan gets, with so many places for each of so many links: for now a ring, whichever it names.
 abbrev pub store_of : {C : Type 0} → Store → ℕ → ℕ → Pile C
 store_of Ring links places = ring.opened links (links * places)
 store_of Pool links places = ring.opened links (links * places)

@@ -1,4 +1,4 @@
-//! From a plan's text to its log.
+//! From what was read of a plan to its log.
 #![tactic(auto)]
 
 pub mod histories;

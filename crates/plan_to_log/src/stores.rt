@@ -1,4 +1,4 @@
-//! A plan that was read, run over the store that it names.
+//! A plan that was read, run over a store: for now a ring, whichever it names.
 ghost use Rattle.std.specs.Prelude.{◌≡◌, ◌*◌, length, IfOk};
 ghost use Rattle.simulation.specs.Programs.{program_of};
 ghost use Rattle.ring.specs.Meaning.{opened};
@@ -71,7 +71,7 @@ fn run_over_ring<C: Cargo, P: Process<C>>(
     run_over(heap, reading, Ring::new(slots.as_mut_slice(), links))
 }
 
-// What becomes of a plan over its store.
+// What becomes of a plan over its store, for now a ring.
 pub(crate) fn run_reading<C: Cargo, P: Process<C>>(
     heap: Global,
     reading: Reading<C, P>,
