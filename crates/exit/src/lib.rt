@@ -4,6 +4,7 @@
 ghost use Rattle.std.specs.Prelude.{◌≡◌, true};
 ghost use Rattle.exit.specs.Limits.{between};
 
+pub mod kind;
 pub mod limits;
 pub mod making;
 pub mod process;

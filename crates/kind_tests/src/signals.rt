@@ -91,11 +91,11 @@ fn sums_stop(rt: HostRuntime) -> Result<(), Fail> {
 fn kind_is_kept(rt: HostRuntime) -> Result<(), Fail> {
     let vehicle = Vehicle::new(0, 65_535).ok_or(Missing::WithinLimits)?;
     let mut signal = Signal::new(LIGHTS).ok_or(Missing::WithinLimits)?;
-    let mut kind = RoadKind::Signal(signal);
+    let mut kind = RoadKind::Node(signal);
     assert_eq!(rt; kind.lookahead(), 5);
     assert!(rt; kind.handle(0, 10, vehicle).is_none());
-    assert_ne!(rt; kind, RoadKind::Signal(signal), "free has changed");
+    assert_ne!(rt; kind, RoadKind::Node(signal), "free has changed");
     assert!(rt; signal.handle(0, 10, vehicle).is_none());
-    assert_eq!(rt; kind, RoadKind::Signal(signal));
+    assert_eq!(rt; kind, RoadKind::Node(signal));
     Ok(())
 }

@@ -65,11 +65,11 @@ fn sums_stop(rt: HostRuntime) -> Result<(), Fail> {
 fn kind_is_kept(rt: HostRuntime) -> Result<(), Fail> {
     let frame = Frame::new(0, 1).ok_or(Missing::WithinLimits)?;
     let mut switch = Switch::new(5, 10).ok_or(Missing::WithinLimits)?;
-    let mut kind = PacketKind::Switch(switch);
+    let mut kind = PacketKind::Node(switch);
     assert_eq!(rt; kind.lookahead(), 5);
     assert!(rt; kind.handle(0, 3, frame).is_some());
-    assert_ne!(rt; kind, PacketKind::Switch(switch), "free has changed");
+    assert_ne!(rt; kind, PacketKind::Node(switch), "free has changed");
     assert!(rt; switch.handle(0, 3, frame).is_some());
-    assert_eq!(rt; kind, PacketKind::Switch(switch));
+    assert_eq!(rt; kind, PacketKind::Node(switch));
     Ok(())
 }

@@ -1,12 +1,11 @@
 -- What differs between the families: their kinds of process, and their cargo.
 use Rattle.std.specs.Prelude.{ℕ, List, Some, None, Ok, Err, Option, Result}
 use Rattle.std.specs.Result.{result_map_both}
-use Rattle.road.specs.declared.kind.RoadKind.{RoadKind}
-use Rattle.road.specs.declared.kind.RoadKind.TheVariants as road
+use Rattle.exit.specs.declared.kind.Kind.TheVariants as kind
+use Rattle.road.specs.Kinds.{RoadProcess}
 use Rattle.road.specs.declared.vehicle.Vehicle.{Vehicle}
 use Rattle.road.specs.Vehicles.{vehicle_of}
-use Rattle.packet.specs.declared.kind.PacketKind.{PacketKind}
-use Rattle.packet.specs.declared.kind.PacketKind.TheVariants as packet
+use Rattle.packet.specs.Kinds.{PacketProcess}
 use Rattle.packet.specs.declared.frame.Frame.{Frame}
 use Rattle.packet.specs.Frames.{frame_of}
 use Rattle.model.specs.declared.reading.Problem.TheVariants.{OutOfRange, UnknownWord}
@@ -31,11 +30,11 @@ loaded_at line None = Err (InField (faulty line 4 OutOfRange))
 loaded_at line (Some x) = Ok x
 
 -- Road: signals and exits.
-abbrev pub road_process : ℕ → ℕ → Word → List ℕ → List ℕ → List ℕ → List ℕ → List ℕ → List ℕ → List ℕ → List ℕ → Result RoadKind RecordFault
+abbrev pub road_process : ℕ → ℕ → Word → List ℕ → List ℕ → List ℕ → List ℕ → List ℕ → List ℕ → List ℕ → List ℕ → Result RoadProcess RecordFault
 road_process line next Net n a b c d e f g = misplaced line
-road_process line next Signal n a b c d e f g = result_map_both road.Signal (λ e. e) (signal_record line next n a b c d e f g)
+road_process line next Signal n a b c d e f g = result_map_both kind.Node (λ e. e) (signal_record line next n a b c d e f g)
 road_process line next Switch n a b c d e f g = misplaced line
-road_process line next Exit n a b c d e f g = result_map_both road.Exit (λ e. e) (exit_record line next n a b c d e f g)
+road_process line next Exit n a b c d e f g = result_map_both kind.Exit (λ e. e) (exit_record line next n a b c d e f g)
 road_process line next Link n a b c d e f g = misplaced line
 road_process line next Event n a b c d e f g = misplaced line
 road_process line next Unknown n a b c d e f g = misplaced line
@@ -48,11 +47,11 @@ road_cargo line a b =
     loaded_at line (vehicle_of class route)))
 
 -- Switch: switches and exits.
-abbrev pub switch_process : ℕ → ℕ → Word → List ℕ → List ℕ → List ℕ → List ℕ → List ℕ → List ℕ → List ℕ → List ℕ → Result PacketKind RecordFault
+abbrev pub switch_process : ℕ → ℕ → Word → List ℕ → List ℕ → List ℕ → List ℕ → List ℕ → List ℕ → List ℕ → List ℕ → Result PacketProcess RecordFault
 switch_process line next Net n a b c d e f g = misplaced line
 switch_process line next Signal n a b c d e f g = misplaced line
-switch_process line next Switch n a b c d e f g = result_map_both packet.Switch (λ e. e) (switch_record line next n a b c d e f g)
-switch_process line next Exit n a b c d e f g = result_map_both packet.Exit (λ e. e) (exit_record line next n a b c d e f g)
+switch_process line next Switch n a b c d e f g = result_map_both kind.Node (λ e. e) (switch_record line next n a b c d e f g)
+switch_process line next Exit n a b c d e f g = result_map_both kind.Exit (λ e. e) (exit_record line next n a b c d e f g)
 switch_process line next Link n a b c d e f g = misplaced line
 switch_process line next Event n a b c d e f g = misplaced line
 switch_process line next Unknown n a b c d e f g = misplaced line

@@ -8,9 +8,9 @@ use Rattle.model.specs.declared.reading.RecordFault.{RecordFault}
 use Rattle.model.specs.declared.reading.RecordFault.TheVariants.{InField, NotNineFields}
 use Rattle.model.specs.declared.reading.PlanFault.{PlanFault}
 use Rattle.model.specs.declared.reading.PlanFault.TheVariants.{InRecord, TooLong, NoProcess}
-use Rattle.road.specs.declared.kind.RoadKind.{RoadKind}
+use Rattle.road.specs.Kinds.{RoadProcess}
 use Rattle.road.specs.declared.vehicle.Vehicle.{Vehicle}
-use Rattle.packet.specs.declared.kind.PacketKind.{PacketKind}
+use Rattle.packet.specs.Kinds.{PacketProcess}
 use Rattle.packet.specs.declared.frame.Frame.{Frame}
 use Rattle.text.specs.Fields.{Cut, whole, broken, cut_line}
 use Rattle.text.specs.Lines.{lines_of}
@@ -62,9 +62,9 @@ family_taken reads loads rp rl rq ro header lines ps ls qs os =
 
 -- The caller's lists, of both families.
 pub record Held : Type 0 where
-  pub roads : List RoadKind
+  pub roads : List RoadProcess
   pub vehicles : List (Opening Vehicle)
-  pub switches : List PacketKind
+  pub switches : List PacketProcess
   pub frames : List (Opening Frame)
   pub links : List link.Link
   pub quotas : List (Option ℕ)

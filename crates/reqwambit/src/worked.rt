@@ -50,7 +50,7 @@ pub fn processes(heap: Global) -> anyhow::Result<Vec<RoadKind>> {
     let Some(exit) = Exit::new(1) else {
         return Err(anyhow!("an exit is outside its limits"));
     };
-    Ok(vec![in heap; RoadKind::Signal(signal), RoadKind::Exit(exit)]?)
+    Ok(vec![in heap; RoadKind::Node(signal), RoadKind::Exit(exit)]?)
 }
 
 // Two vehicles that come together.

@@ -63,7 +63,7 @@ fn processes(heap: Global, lights: Settings) -> Result<Vec<RoadKind>, Fail> {
     let Some(exit) = Exit::new(1) else {
         return Err(Fail::new("an exit is outside its limits"));
     };
-    Ok(vec![in heap; RoadKind::Signal(signal), RoadKind::Exit(exit)]?)
+    Ok(vec![in heap; RoadKind::Node(signal), RoadKind::Exit(exit)]?)
 }
 
 // Two vehicles that come together.

@@ -3,7 +3,7 @@ use Rattle.std.proofs.Common.{◌≡◌, ℕ, zero, suc, ◌<◌, ◌≢◌, ◌
 use Rattle.model.specs.declared.event.Event.{Event}
 use Rattle.model.specs.declared.refusal.Refusal.TheVariants.{Held}
 use Rattle.model.specs.Shape.{target}
-use Rattle.road.specs.declared.kind.RoadKind.{RoadKind}
+use Rattle.road.specs.Kinds.{RoadProcess}
 use Rattle.road.specs.declared.vehicle.Vehicle.{Vehicle}
 use Rattle.simulation.specs.Step.{Step}
 use Rattle.simulation.specs.View.{View, Safe, link_clock}
@@ -45,5 +45,5 @@ pub junction_safe : (sent : List (Event Vehicle)) (left : List ℕ)
 junction_safe sent left = record { leads = refl; first = refl; soon = lit< tt; sure = λ j to n. absurd (n (only_first j to)) }
 
 -- With a place free, no step is held.
-pub not_held : (k : ℕ) (w : View Vehicle RoadKind) → ¬ (Step road_program (run_over one_waits) 0 (Err (Held k)) w)
+pub not_held : (k : ℕ) (w : View Vehicle RoadProcess) → ¬ (Step road_program (run_over one_waits) 0 (Err (Held k)) w)
 not_held k w (Step.held ready safe full) = none_is_some full

@@ -4,11 +4,12 @@ use Rattle.model.specs.declared.opening.Opening.{Opening}
 use Rattle.model.specs.declared.record.Record.{Record}
 use Rattle.model.specs.Shape.{Shape}
 use Rattle.exit.specs.declared.Exit as exit
+use Rattle.exit.specs.declared.kind.Kind.TheVariants.{Node, Exit}
 use Rattle.exit.specs.Exits.{exit_of}
-use Rattle.road.specs.contracts.kind.RoadKindProcessVehicle.TheImpl as process
+use Rattle.exit.specs.Kinds.{kind_ghosts}
+use Rattle.road.specs.contracts.signal.process.SignalProcessVehicle.TheImpl as process
 use Rattle.road.specs.contracts.vehicle.cargo.VehicleCargo.TheImpl as cargo
-use Rattle.road.specs.declared.kind.RoadKind.{RoadKind}
-use Rattle.road.specs.declared.kind.RoadKind.TheVariants.{Signal, Exit}
+use Rattle.road.specs.Kinds.{RoadProcess}
 use Rattle.road.specs.declared.signal.Signal as signal
 use Rattle.road.specs.declared.signal.settings.Settings.{Settings}
 use Rattle.road.specs.declared.vehicle.Vehicle.{Vehicle}
@@ -21,8 +22,8 @@ use Rattle.simulation.specs.Prepare.{Limits}
 use Rattle.simulation.specs.Law.{Over, NoneStopped}
 
 -- What the impls of cargo and of process state.
-abbrev pub road_program : Program Vehicle RoadKind
-road_program = program_of cargo.ghosts process.ghosts
+abbrev pub road_program : Program Vehicle RoadProcess
+road_program = program_of cargo.ghosts (kind_ghosts process.ghosts)
 
 -- Green for the first half of each minute.
 abbrev pub lights : Settings
@@ -53,10 +54,10 @@ abbrev pub coming : Opening Vehicle
 coming = record { link = 0; time = 10; cargo = vehicle }
 
 -- Two of them come.
-abbrev pub worked_net : Net Vehicle RoadKind
+abbrev pub worked_net : Net Vehicle RoadProcess
 worked_net = record {
   plan = worked_plan;
-  processes = Signal junction ∷ Exit way_out ∷ [];
+  processes = Node junction ∷ Exit way_out ∷ [];
   opening = coming ∷ coming ∷ [];
 }
 

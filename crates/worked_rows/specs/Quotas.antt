@@ -4,7 +4,7 @@ use Rattle.model.specs.declared.event.Event.{Event}
 use Rattle.model.specs.declared.refusal.Refusal.TheVariants.{Held}
 use Rattle.model.specs.Pile.{Pile}
 use Rattle.model.specs.Shape.{out_links}
-use Rattle.road.specs.declared.kind.RoadKind.{RoadKind}
+use Rattle.road.specs.Kinds.{RoadProcess}
 use Rattle.road.specs.declared.vehicle.Vehicle.{Vehicle}
 use Rattle.simulation.specs.Step.{Step, first_full}
 use Rattle.simulation.specs.View.{View, Safe}
@@ -49,7 +49,7 @@ abbrev pub one_waits : Pile Vehicle
 one_waits = rationed (store second) left_with_second
 
 -- A run of the worked plan over such links, with nothing in its log.
-abbrev pub run_over : Pile Vehicle → View Vehicle RoadKind
+abbrev pub run_over : Pile Vehicle → View Vehicle RoadProcess
 run_over links = record {
   plan = worked_plan;
   processes = worked_net.processes;
@@ -69,4 +69,4 @@ pub record Holding : Type 0 where
   pub full_with_two : first_full two_wait (out_links worked_plan 0) ≡ Some 1
   pub free_with_one : first_full one_waits (out_links worked_plan 0) ≡ None
   pub held_with_two : Step road_program (run_over two_wait) 0 (Err (Held 1)) (run_over two_wait)
-  pub not_held_with_one : (k : ℕ) (w : View Vehicle RoadKind) → ¬ (Step road_program (run_over one_waits) 0 (Err (Held k)) w)
+  pub not_held_with_one : (k : ℕ) (w : View Vehicle RoadProcess) → ¬ (Step road_program (run_over one_waits) 0 (Err (Held k)) w)

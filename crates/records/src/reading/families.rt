@@ -60,7 +60,7 @@ impl ProcessKind<Vehicle> for RoadKind {
     ) -> Result<RoadKind, RecordFault> {
         match word {
             Word::Signal => match read_signal(line, next, number, a, b, c, d, e, f, g) {
-                Ok(signal) => Ok(RoadKind::Signal(signal)),
+                Ok(signal) => Ok(RoadKind::Node(signal)),
                 Err(fault) => Err(fault),
             },
             Word::Exit => match read_exit(line, next, number, a, b, c, d, e, f, g) {
@@ -109,7 +109,7 @@ impl ProcessKind<Frame> for PacketKind {
     ) -> Result<PacketKind, RecordFault> {
         match word {
             Word::Switch => match read_switch(line, next, number, a, b, c, d, e, f, g) {
-                Ok(switch) => Ok(PacketKind::Switch(switch)),
+                Ok(switch) => Ok(PacketKind::Node(switch)),
                 Err(fault) => Err(fault),
             },
             Word::Exit => match read_exit(line, next, number, a, b, c, d, e, f, g) {

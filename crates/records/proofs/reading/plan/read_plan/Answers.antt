@@ -1,7 +1,7 @@
 use Rattle.std.proofs.Common.{vec_items, vec_capacity, sym, ap, ◌∙◌, arith}
-use Rattle.road.specs.declared.kind.RoadKind.{RoadKind}
+use Rattle.road.specs.Kinds.{RoadProcess}
 use Rattle.road.specs.declared.vehicle.Vehicle.{Vehicle}
-use Rattle.packet.specs.declared.kind.PacketKind.{PacketKind}
+use Rattle.packet.specs.Kinds.{PacketProcess}
 use Rattle.packet.specs.declared.frame.Frame.{Frame}
 use Rattle.records.specs.PlanText.{Rooms, Held, FamilyRead, PlanRead}
 use Rattle.records.specs.declared.reading.words.Family.TheVariants.{Road, Switch}
@@ -16,7 +16,7 @@ pub returns-in-Road : goal.returns-in-Road
 returns-in-Road c =
     let room : Rooms = record { roads = vec_capacity c.args.roads.now; vehicles = vec_capacity c.args.vehicles.now; switches = vec_capacity c.args.switches.now; frames = vec_capacity c.args.frames.now; links = vec_capacity c.args.links.now; quotas = vec_capacity c.args.quotas.now } in
     let held : Held = record { roads = vec_items c.args.roads.now; vehicles = vec_items c.args.vehicles.now; switches = vec_items c.args.switches.now; frames = vec_items c.args.frames.now; links = vec_items c.args.links.now; quotas = vec_items c.args.quotas.now } in
-    let filled : FamilyRead RoadKind Vehicle → PlanRead =
+    let filled : FamilyRead RoadProcess Vehicle → PlanRead =
     λ q. (record { roads = q.0; vehicles = q.3; switches = vec_items c.args.switches.now; frames = vec_items c.args.frames.now; links = q.1; quotas = q.2 }, q.4) in
     ap filled c.read_family.ensures
     ∙ sym (planned room c.args.text.now c.in-Some.first.now c.in-Some.rest.now held c.in_ok-net.net Road
@@ -26,7 +26,7 @@ pub returns-in-Switch : goal.returns-in-Switch
 returns-in-Switch c =
     let room : Rooms = record { roads = vec_capacity c.args.roads.now; vehicles = vec_capacity c.args.vehicles.now; switches = vec_capacity c.args.switches.now; frames = vec_capacity c.args.frames.now; links = vec_capacity c.args.links.now; quotas = vec_capacity c.args.quotas.now } in
     let held : Held = record { roads = vec_items c.args.roads.now; vehicles = vec_items c.args.vehicles.now; switches = vec_items c.args.switches.now; frames = vec_items c.args.frames.now; links = vec_items c.args.links.now; quotas = vec_items c.args.quotas.now } in
-    let filled : FamilyRead PacketKind Frame → PlanRead =
+    let filled : FamilyRead PacketProcess Frame → PlanRead =
     λ q. (record { roads = vec_items c.args.roads.now; vehicles = vec_items c.args.vehicles.now; switches = q.0; frames = q.3; links = q.1; quotas = q.2 }, q.4) in
     ap filled c.read_family-in-Switch.ensures
     ∙ sym (planned room c.args.text.now c.in-Some.first.now c.in-Some.rest.now held c.in_ok-net.net Switch
