@@ -1,5 +1,6 @@
 -- What a store means at first.
 use Rattle.std.specs.Prelude.{ℕ, ◌*◌, Bool, ◌&&◌, [], nat_le}
+use Rattle.model.specs.declared.event.Event.{Event}
 use Rattle.model.specs.Pile.{Pile}
 
 -- Whether n slots can serve so many links: 1 to 128 links, at least 4 slots a link, and at most 65,535 slots.
@@ -17,3 +18,7 @@ empty links places = record {
   capacity = λ k. places;
   quotas = λ k. [];
 }
+
+-- What a slot holds before an event is put there. It is never read.
+abbrev pub unread : {C : Type 0} → C → Event C
+unread cargo = record { time = 0; cargo = cargo }
