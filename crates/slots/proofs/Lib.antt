@@ -1,3 +1,1 @@
 pub mod Walks
-pub mod Tables
-pub mod Limits

@@ -1,11 +1,13 @@
 //! The calls of the store.
-ghost use Rattle.std.specs.Prelude.{◌≡◌, ◌<◌, ◌≤◌, length, replicate};
-ghost use Rattle.ring.specs.Shape.{fresh, row, around, spot};
+ghost use Rattle.std.specs.Prelude.{◌≡◌, ◌<◌, ◌≤◌, length, replicate, slice_set};
+ghost use Rattle.arrayvec.specs.ArrayVec.{array_vec_len};
+ghost use Rattle.ring.specs.Shape.{Within, fresh, row, around, spot};
 ghost use Rattle.ring.specs.Meaning.{meaning_of, opened, Looked, LookedAt};
 ghost use Rattle.ring.specs.Soundness.{is_sound};
 
 use super::Ring;
 use crate::lane::Lane;
+use arrayvec::ArrayVec;
 use model::cargo::Cargo;
 use model::event::Event;
 use model::fault::LinkFault;
@@ -27,15 +29,14 @@ fn place(size: u32, head: u32, after: u32) -> u32
     }
 }
 
-// Lanes on which nothing was put.
-fn fresh_lanes() -> [Lane; MOST_LINKS]
-    ensures { result ≡ replicate 128 fresh }
+// So many lanes on which nothing was put.
+fn fresh_lanes(links: usize) -> ArrayVec<Lane, MOST_LINKS>
+    requires { links ≤ 128 }
+    ensures { result.items ≡ replicate links fresh }
 {
-    [Lane {
-        head: 0,
-        len: 0,
-        floor: 0,
-    }; MOST_LINKS]
+    let mut lanes = ArrayVec::from([Lane::default(); MOST_LINKS]);
+    lanes.truncate(links);
+    lanes
 }
 
 impl<'a, C: Cargo> Ring<'a, C> {
@@ -44,32 +45,23 @@ impl<'a, C: Cargo> Ring<'a, C> {
     pub fn new(slots: &'a mut [Event<C>], links: usize) -> Self
         ensures { meaning_of result ≡ opened links (length slots.old) }
     {
-        let lanes = fresh_lanes();
         if !slots::suits(links, slots.len()) {
             return Ring {
                 slots,
-                links: 0,
                 size: 0,
-                lanes,
+                lanes: ArrayVec::new(),
             };
         }
         let size = (slots.len() / links) as u32;
-        Ring {
-            slots,
-            links,
-            size,
-            lanes,
-        }
+        let lanes = fresh_lanes(links);
+        Ring { slots, size, lanes }
     }
 
     // The lane of a link.
     fn lane(&self, link: usize) -> Result<Lane, LinkFault>
         ensures { Looked self.now link result }
     {
-        if link >= self.links {
-            return Err(LinkFault::NoSuchLink);
-        }
-        Ok(self.lanes[link])
+        self.lanes.get(link).copied().ok_or(LinkFault::NoSuchLink)
     }
 
     // The lane of a link on which something may be put at this time.
@@ -86,11 +78,22 @@ impl<'a, C: Cargo> Ring<'a, C> {
         Ok(lane)
     }
 
+    // Gives a link another lane.
+    fn set_lane(&mut self, link: usize, lane: Lane)
+        requires there { link < array_vec_len self.old.lanes }
+        requires within { Within self.old.size lane }
+        ensures slots { self.new.slots.now ≡ self.old.slots.now }
+        ensures size { self.new.size ≡ self.old.size }
+        ensures lanes { self.new.lanes.items ≡ slice_set self.old.lanes.items link lane }
+    {
+        self.lanes[link] = lane;
+    }
+
     // The slot that lies `after` places after the head of a link.
     fn slot(&self, link: usize, after: u32) -> usize
-        requires there { link < self.now.links }
+        requires there { link < array_vec_len self.now.lanes }
         requires within { after < self.now.size }
-        ensures is { result ≡ spot self.now.size link (row self.now.lanes link).head after }
+        ensures is { result ≡ spot self.now.size link (row self.now.lanes.items link).head after }
         ensures inside { result < length self.now.slots.now }
     {
         link * self.size as usize + place(self.size, self.lanes[link].head, after) as usize
@@ -109,17 +112,19 @@ impl<'a, C: Cargo> Links<C> for Ring<'a, C> {
         }
         let at = self.slot(link, lane.len);
         self.slots[at] = Event { time, cargo };
-        self.lanes[link] = Lane {
+        let lane = Lane {
             len: lane.len + 1,
             floor: time,
             ..lane
         };
+        self.set_lane(link, lane);
         Ok(())
     }
 
     fn null(&mut self, link: usize, time: u32) -> Result<(), LinkFault> {
-        self.lane_at(link, time)?;
-        self.lanes[link].floor = time;
+        let mut lane = self.lane_at(link, time)?;
+        lane.floor = time;
+        self.set_lane(link, lane);
         Ok(())
     }
 
@@ -129,21 +134,19 @@ impl<'a, C: Cargo> Links<C> for Ring<'a, C> {
             return Ok(None);
         }
         let at = self.slot(link, 0);
-        let slots = &*self.slots;
-        Ok(Some(slots[at]))
+        Ok(Some(self.slots[at]))
     }
 
     fn take(&mut self, link: usize) -> Result<Event<C>, LinkFault> {
-        let Some(event) = self.first(link)? else {
-            return Err(LinkFault::NothingWaits);
-        };
+        let event = self.first(link)?.ok_or(LinkFault::NothingWaits)?;
         let lane = self.lanes[link];
         let head = place(self.size, lane.head, 1);
-        self.lanes[link] = Lane {
+        let lane = Lane {
             head,
             len: lane.len - 1,
             ..lane
         };
+        self.set_lane(link, lane);
         Ok(event)
     }
 
