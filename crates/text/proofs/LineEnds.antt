@@ -81,16 +81,15 @@ at_lf {text} {line} front {rest} whole clear w = record {
 
 -- the same where the LF stands at i
 pub split_at_lf : (text : List ℕ) (i : ℕ) (line : List ℕ)
-    → i < length text → Clear text i → get_or text i 0 ≡ 10 → line ≡ without_cr (take (i - 0) text)
+    → i < length text → Clear text i → get_or text i 0 ≡ 10 → line ≡ without_cr (take i text)
     → FirstLine text line (take (length text - (i + 1)) (drop (i + 1) text))
 split_at_lf text i line lt clear e w =
-    let front : take (i - 0) text ≡ take i text = ap (λ k. take k text) (omega arith) in
     let rest : drop i text ≡ 10 ∷ drop (i + 1) text = drop_more text i 0 lt ∙ ap (λ b. b ∷ drop (i + 1) text) e in
     let whole : text ≡ take i text ++ 10 ∷ drop (i + 1) text = sym (take-append-drop i text) ∙ ap (λ x. take i text ++ x) rest in
     let within : length (take i text) ≡ i = length-take-le i text (omega arith) in
     let none : Clear (take i text) (length (take i text)) = λ k l z.
     let l' : k < i = omega arith in clear k l' (sym (get_or-take i text k 0 l') ∙ z) in
-    rw take_rest (at_lf (take i text) whole none (w ∙ ap without_cr front))
+    rw take_rest (at_lf (take i text) whole none w)
 
 -- a text without LF is one line
 pub split_last : (text : List ℕ) → 0 < length text → Clear text (length text)

@@ -1,5 +1,6 @@
 -- The lines of a text: 10 is LF, 13 is CR.
 use Rattle.std.specs.Prelude.{◌≡◌, ℕ, ◌<◌, Bool, false, cond, ◌&&◌, ◌⊎◌, List, [], ◌∷◌, ◌++◌, length, ◌==◌}
+use Rattle.text.specs.declared.lines.SplitLines.{SplitLines}
 
 -- whether the bytes begin with LF
 abbrev pub begins_lf : List ℕ → Bool
@@ -19,6 +20,10 @@ lines_of (b ∷ bs) = cond (b == 10) ([] ∷ lines_of bs) (cond (b == 13 && begi
 -- a text is its first line, that line's end and the rest, or one line without an end
 abbrev pub Split : List ℕ → List ℕ → List ℕ → Type 0
 Split text line rest = (text ≡ line ++ (10 ∷ rest)) ⊎ ((text ≡ line ++ (13 ∷ 10 ∷ rest)) ⊎ ((text ≡ line) × (rest ≡ [])))
+
+-- the lines that an iterator still gives
+abbrev pub lines_left : SplitLines → List (List ℕ)
+lines_left l = lines_of l.rest.now
 
 -- the first line of a text, and what follows
 pub record FirstLine (text line rest : List ℕ) : Type 0 where

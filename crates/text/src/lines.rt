@@ -1,6 +1,7 @@
 // The lines of a text.
 ghost use Rattle.std.specs.Prelude.{◌≡◌, [], Some, None};
-ghost use Rattle.text.specs.Lines.{FirstLine};
+ghost use Rattle.std.specs.Iterator.{YieldsFirstRef, item_count};
+ghost use Rattle.text.specs.Lines.{FirstLine, lines_left, lines_of};
 
 // The first line of a text, without its end, and what follows; none of an empty text.
 pub fn split_line(text: &[u8]) -> Option<(&[u8], &[u8])>
@@ -9,13 +10,40 @@ pub fn split_line(text: &[u8]) -> Option<(&[u8], &[u8])>
     if text.is_empty() {
         return None;
     }
-    for (i, byte) in text.iter().enumerate() {
-        if *byte == b'\n' {
-            let front = &text[0..i];
+    match text.iter().position(|byte| *byte == b'\n') {
+        Some(end) => {
+            let front = &text[..end];
             // A CR right before the LF belongs to the line's end.
             let line = front.strip_suffix(b"\r").unwrap_or(front);
-            return Some((line, &text[i + 1..]));
+            Some((line, &text[end + 1..]))
         }
+        None => Some((text, &text[text.len()..])),
     }
-    Some((text, &text[text.len()..]))
+}
+
+// The lines of a text, one after another.
+#[derive(Drop)]
+pub struct SplitLines<'a> {
+    rest: &'a [u8],
+}
+
+// All lines of a text, from its first one on.
+pub fn lines(text: &[u8]) -> SplitLines<'_>
+    ensures { lines_left result ≡ lines_of text.now }
+{
+    SplitLines { rest: text }
+}
+
+impl<'a> Iterator for SplitLines<'a> {
+    type Item = &'a [u8];
+
+    ghost next_gives = { YieldsFirstRef lines_left };
+
+    ghost remaining = { item_count lines_left };
+
+    fn next(&mut self) -> Option<&'a [u8]> {
+        let (line, rest) = split_line(self.rest)?;
+        self.rest = rest;
+        Some(line)
+    }
 }

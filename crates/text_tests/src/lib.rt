@@ -6,7 +6,7 @@ mod tests {
     use std::test::Fail;
     use text::bytes::{put_bytes, same};
     use text::fields::{Malformed, cut_fields};
-    use text::lines::split_line;
+    use text::lines::{lines, split_line};
     use text::numbers::{append_number, put_number, read_number, spells};
 
     #[test]
@@ -32,6 +32,30 @@ mod tests {
         assert!(rt; same(second, b""));
         assert!(rt; split_line(rest).is_none());
         Ok(())
+    }
+
+    #[test]
+    fn lines_in_order(rt: HostRuntime) -> Result<(), Fail> {
+        let mut given = lines(b"net,road\r\n\nlink\r");
+        assert!(rt; same(given.next().ok_or("no line")?, b"net,road"));
+        assert!(rt; same(given.next().ok_or("no second line")?, b""));
+        assert!(rt; same(given.next().ok_or("no third line")?, b"link\r"));
+        assert!(rt; given.next().is_none());
+        assert_eq!(rt; lines(b"").count(), 0);
+        Ok(())
+    }
+
+    #[test]
+    fn lines_numbered(rt: HostRuntime) {
+        let mut numbered = lines(b"exit\n\r\n").zip(2u32..);
+        assert!(rt; matches!(numbered.next(), Some((b"exit", 2))));
+        assert!(rt; matches!(numbered.next(), Some((b"", 3))));
+        assert!(rt; numbered.next().is_none());
+        let mut last = 0;
+        for (_, number) in lines(b"a,b,c\n\r\nd").zip(2u32..) {
+            last = number;
+        }
+        assert_eq!(rt; last, 4);
     }
 
     #[test]
