@@ -1,5 +1,5 @@
 -- What a writer leaves in a caller's buffer.
-use Rattle.std.specs.Prelude.{◌≡◌, ℕ, ◌+◌, ◌<◌, ◌≤◌, List, ◌++◌, length, take, drop, Some, None, Option}
+use Rattle.std.specs.Prelude.{◌≡◌, ℕ, ◌+◌, ◌<◌, ◌≤◌, cond, List, ◌++◌, length, take, drop, is_ok, Some, None, Option, Result}
 
 -- bytes put from a place on: they stand there, and nothing before or after them is changed
 pub record Placed (before : List ℕ) (at : ℕ) (bytes : List ℕ) (end : ℕ) (after : List ℕ) : Type 0 where
@@ -16,3 +16,7 @@ pub record Unfit (before : List ℕ) (at : ℕ) (bytes : List ℕ) (after : List
 abbrev pub Put : List ℕ → ℕ → List ℕ → Option ℕ → List ℕ → Type 0
 Put before at bytes (Some end) after = Placed before at bytes end after
 Put before at bytes None after = Unfit before at bytes after
+
+-- bytes appended to a list if the call succeeds; if it fails, the list stays as it was
+abbrev pub Appends : {A B E : Type 0} → List A → List A → Result B E → List A → Type 0
+Appends before added result after = after ≡ cond (is_ok result) (before ++ added) before

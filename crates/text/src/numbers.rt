@@ -1,8 +1,8 @@
 // Decimal numbers, read and written.
-ghost use Rattle.std.specs.Prelude.{◌≡◌, ◌+◌, ◌≤◌, true, ◌++◌, length, is_ok, if◌then◌else◌, vec_len, vec_capacity};
+ghost use Rattle.std.specs.Prelude.{◌≡◌, ◌+◌, ◌≤◌, true, length, is_ok, vec_len, vec_capacity};
 ghost use Rattle.std.specs.Str.{bytes_eq};
 ghost use Rattle.text.specs.Decimal.{ReadsBack, digits, number_of, unpadded};
-ghost use Rattle.text.specs.Writing.{Placed, Put};
+ghost use Rattle.text.specs.Writing.{Appends, Placed, Put};
 
 use crate::bytes::put_bytes;
 use std::alloc::AllocError;
@@ -64,7 +64,7 @@ pub fn put_number(buf: &mut [u8], at: usize, n: u64) -> Option<usize>
 
 // Appends the digits of n. Without memory for them, the list stays as it is.
 pub fn append_number(out: &mut Vec<u8>, n: u64) -> Result<(), AllocError>
-    ensures items { out.new.items ≡ (if is_ok result then out.old.items ++ digits n else out.old.items) }
+    ensures items { Appends out.old.items (digits n) result out.new.items }
     ensures succeeds { vec_len out.old + length (digits n) ≤ vec_capacity out.old → is_ok result ≡ true }
     ensures capacity { vec_capacity out.old ≤ vec_capacity out.new }
 {
