@@ -1,5 +1,5 @@
 // The lines of a text.
-ghost use Rattle.std.specs.Prelude.{◌≡◌, [], Some, None};
+ghost use Rattle.std.specs.Prelude.{◌≡◌, ◌≤◌, [], Some, None, length};
 ghost use Rattle.std.specs.Iterator.{YieldsFirstRef, item_count};
 ghost use Rattle.text.specs.Lines.{FirstLine, lines_left, lines_of};
 
@@ -29,7 +29,8 @@ pub struct SplitLines<'a> {
 
 // All lines of a text, from its first one on.
 pub fn lines(text: &[u8]) -> SplitLines<'_>
-    ensures { lines_left result ≡ lines_of text.now }
+    ensures all { lines_left result ≡ lines_of text.now }
+    ensures few { length (lines_of text.now) ≤ length text.now }
 {
     SplitLines { rest: text }
 }
