@@ -17,46 +17,53 @@ pub trait Numbered {
         ensures { IfOk result (λ v. v.items ≡ numbers self.now) };
 }
 
-fn problem_number(problem: Problem) -> u64
-    ensures { result ≡ problem_number problem }
-{
-    match problem {
-        Problem::Malformed => 1,
-        Problem::OutOfRange => 3,
-        Problem::UnknownWord => 4,
-        Problem::NotNext => 5,
-        Problem::Absent => 6,
+impl From<Problem> for u64 {
+    ghost from_gives = { λ problem n. n ≡ problem_number problem };
+
+    fn from(problem: Problem) -> u64 {
+        match problem {
+            Problem::Malformed => 1,
+            Problem::OutOfRange => 3,
+            Problem::UnknownWord => 4,
+            Problem::NotNext => 5,
+            Problem::Absent => 6,
+        }
     }
 }
 
-fn cause_number(cause: Cause) -> u64
-    ensures { result ≡ cause_number cause }
-{
-    match cause {
-        Cause::Early => 1,
-        Cause::TooFar => 2,
-        Cause::Overtaking => 3,
+impl From<Cause> for u64 {
+    ghost from_gives = { λ cause n. n ≡ cause_number cause };
+
+    fn from(cause: Cause) -> u64 {
+        match cause {
+            Cause::Early => 1,
+            Cause::TooFar => 2,
+            Cause::Overtaking => 3,
+        }
     }
 }
 
-fn fault_number(fault: LinkFault) -> u64
-    ensures { result ≡ fault_number fault }
-{
-    match fault {
-        LinkFault::NoSuchLink => 15,
-        LinkFault::PastLastTime => 16,
-        LinkFault::BelowFloor => 17,
-        LinkFault::Full(_) => 18,
-        LinkFault::NothingWaits => 19,
+impl LinkFault {
+    fn number(self) -> u64
+        ensures { result ≡ fault_number self }
+    {
+        match self {
+            LinkFault::NoSuchLink => 15,
+            LinkFault::PastLastTime => 16,
+            LinkFault::BelowFloor => 17,
+            LinkFault::Full(_) => 18,
+            LinkFault::NothingWaits => 19,
+        }
     }
-}
 
-fn fault_layer(fault: LinkFault) -> u64
-    ensures { result ≡ fault_layer fault }
-{
-    match fault {
-        LinkFault::Full(layer) => u64::from(layer),
-        _ => 0,
+    // The layer that it names; 0 where it names none.
+    fn layer(self) -> u64
+        ensures { result ≡ fault_layer self }
+    {
+        match self {
+            LinkFault::Full(layer) => u64::from(layer),
+            _ => 0,
+        }
     }
 }
 
@@ -65,7 +72,7 @@ impl Numbered for FieldFault {
 
     fn numbers(&self, heap: Global) -> Result<Vec<u64>, AllocError> {
         Ok(vec![in heap;
-            problem_number(self.problem),
+            u64::from(self.problem),
             u64::from(self.line),
             u64::from(self.field),
         ]?)
@@ -91,8 +98,7 @@ impl Numbered for PlanFault {
     fn numbers(&self, heap: Global) -> Result<Vec<u64>, AllocError> {
         match *self {
             PlanFault::InRecord(fault) => fault.numbers(heap),
-            PlanFault::TooLong => Ok(vec![in heap; 9]?),
-            PlanFault::NoProcess => Ok(vec![in heap; 9]?),
+            PlanFault::TooLong | PlanFault::NoProcess => Ok(vec![in heap; 9]?),
         }
     }
 }
@@ -101,7 +107,7 @@ impl Numbered for LinkFault {
     ghost numbers = { fault_numbers };
 
     fn numbers(&self, heap: Global) -> Result<Vec<u64>, AllocError> {
-        Ok(vec![in heap; fault_number(*self), fault_layer(*self)]?)
+        Ok(vec![in heap; self.number(), self.layer()]?)
     }
 }
 
@@ -127,7 +133,7 @@ impl Numbered for Unprepared {
             Unprepared::LinkRefused(link, fault) => Ok(vec![in heap;
                 10,
                 link as u64,
-                fault_number(fault),
+                fault.number(),
             ]?),
             Unprepared::NoMemory => Ok(vec![in heap; 0]?),
         }
@@ -155,7 +161,7 @@ impl Numbered for Refusal {
                     process as u64,
                     link as u64,
                     u64::from(time),
-                    cause_number(cause),
+                    u64::from(cause),
                 ]?)
             }
         }

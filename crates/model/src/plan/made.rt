@@ -12,10 +12,7 @@ use crate::link::Link;
 fn between(link: &Link, processes: usize) -> bool
     ensures { result ≡ joins processes (Some link.now) }
 {
-    let from = match link.from {
-        None => true,
-        Some(process) => process < processes,
-    };
+    let from = link.from.is_none_or(|process| process < processes);
     from && link.to < processes && link.delay <= 10_000
 }
 
@@ -23,23 +20,14 @@ fn between(link: &Link, processes: usize) -> bool
 fn all_between(links: &[Link], processes: usize) -> bool
     ensures { result ≡ each (length links.now) (λ k. joins processes (at links.now k)) }
 {
-    let mut all = true;
-    for link in links {
-        all = all && between(link, processes);
-    }
-    all
+    links.iter().all(|link| between(link, processes))
 }
 
 // Whether each of so many processes has at most 8 links leading from it.
 fn all_few(links: &[Link], processes: usize) -> bool
     ensures { result ≡ each processes (λ p. nat_le (length (leaving links.now p)) 8) }
 {
-    let mut all = true;
-    for process in 0..processes {
-        let few = out_count(links, process) <= 8;
-        all = all && few;
-    }
-    all
+    (0..processes).all(|process| out_count(links, process) <= 8)
 }
 
 impl Plan {
@@ -47,16 +35,10 @@ impl Plan {
     pub fn new(horizon: u32, processes: usize, links: Vec<Link>) -> Option<Plan>
         ensures { Made (record { horizon = horizon; processes = processes; links = links.items }) result }
     {
-        if horizon < 1 || horizon > 1_000_000 {
+        if !(1..=1_000_000).contains(&horizon) || !(1..=64).contains(&processes) {
             return None;
         }
-        if processes < 1 || processes > 64 {
-            return None;
-        }
-        if links.len() > 128
-            || !all_between(links.as_slice(), processes)
-            || !all_few(links.as_slice(), processes)
-        {
+        if links.len() > 128 || !all_between(&links, processes) || !all_few(&links, processes) {
             return None;
         }
         Some(Plan {
@@ -92,11 +74,6 @@ impl Plan {
     pub fn link(&self, number: usize) -> Option<Link>
         ensures { result ≡ at (shape_of self.now).links number }
     {
-        let links = self.links.as_slice();
-        if number < links.len() {
-            Some(links[number])
-        } else {
-            None
-        }
+        self.links.get(number).copied()
     }
 }

@@ -1,27 +1,9 @@
-use Rattle.std.proofs.Common.{◌≡◌, ℕ, Bool, [], ◌∷◌, ◌++◌, length, vec_items, sym, ap, ◌∙◌, arith}
-use Rattle.model.specs.Lists.{at, then, is, numbers_below}
-use Rattle.model.specs.Shape.{leaving}
-use Rattle.model.proofs.Places.{at_read, below_with, below_without}
+use Rattle.std.proofs.Common.{rules}
+use borrow.Author.Tests.{tests}
+use Rattle.model.specs.Lists.{is, then}
 use Rattle.model.proofs.plan.Plan.out_links.Goals as goal
-use Rattle.model.proofs.plan.Plan.out_links.Goals.{then-leaves+in_ok-push, else-leaves}
-
-pub loop-k-preserved : goal.loop-k-preserved
-loop-k-preserved c =
-    let i = c.loop-k.k in
-    let links = c.as_slice-links.result.now in
-    let test : ℕ → Bool = λ k. is c.args.process (then (at links k) (λ e. e.from)) in
-    let here = ap (λ o. is c.args.process (then o (λ e. e.from))) (at_read links i _ c.loop-k-test.true) in
-    elim c.if-leaves.branch [
-      | then-leaves+in_ok-push w ↦
-          ap vec_items w.found-is ∙ w.in_ok-push.ensures.items ∙ ap (λ l. l ++ (i ∷ [])) c.loop-k.invariant
-          ∙ sym (below_with i test (here ∙ sym c.leaves.ensures ∙ w.if-leaves.true))
-      | else-leaves w ↦
-          ap vec_items w.found-is ∙ c.loop-k.invariant ∙ sym (below_without i test (here ∙ sym c.leaves.ensures ∙ w.if-leaves.false))
-    ]
 
 pub returns : goal.returns
 returns c =
-    let links = c.as_slice-links.result.now in
-    let ended : c.loop-k.k ≡ length links = omega (arith, c.loop-k-test.false, c.loop-k.auto.k-end) in
-    c.loop-k.invariant ∙ ap (λ n. numbers_below n (λ k. is c.args.process (then (at links k) (λ e. e.from)))) ended
-    ∙ ap (λ l. leaving l c.args.process) c.as_slice-links.ensures.value
+    rw (← c.deref.ensures.value)
+    (c.numbers_where.ensures (λ o. is c.args.process (then o (λ l. l.from))) (λ link b k. search (rules, tests)))

@@ -1,17 +1,13 @@
-use Rattle.std.proofs.Common.{ℕ, Bool, ◌&&◌, leb, length, sym, ap, ◌∙◌}
+use Rattle.std.proofs.Common.{rules, leb, length, sym, ◌∙◌, arith}
+use borrow.Author.Tests.{tests}
+use Rattle.std.proofs.lemmas.Iterator.{YieldsList-from_range}
+use Rattle.std.proofs.lemmas.Iterator.Search.{all_from_yields_List}
 use Rattle.model.specs.Shape.{leaving}
-use Rattle.model.proofs.Places.{each_more}
+use Rattle.model.proofs.Chains.{each_of_range}
 use Rattle.model.proofs.plan.made.all_few.Goals as goal
-use Rattle.model.proofs.plan.made.all_few.Goals.{then-all, else-all}
 
-pub loop-process-preserved : goal.loop-process-preserved
-loop-process-preserved c =
-    let i = c.loop-process.process in
-    let test : ℕ → Bool = λ p. leb (length (leaving c.args.links.now p)) 8 in
-    let here = ap (λ n. leb n 8) c.out_count-few.ensures in
-    elim c.if-all.branch [
-      | then-all w ↦ w.all-is ∙ here
-          ∙ ap (λ b. b && test i) (sym w.if-all.true ∙ c.loop-process.invariant) ∙ sym (each_more i test)
-      | else-all w ↦ w.all-is ∙ w.if-all.false
-          ∙ ap (λ b. b && test i) (sym w.if-all.false ∙ c.loop-process.invariant) ∙ sym (each_more i test)
-    ]
+pub returns : goal.returns
+returns c =
+    let n = c.args.processes in
+    all_from_yields_List (λ p. leb (length (leaving c.args.links.now p)) 8) _ _ _ c.all.ensures.ran (YieldsList-from_range 0 n n (search rules) (omega arith)) (λ x b q k. search (rules, tests))
+    ∙ sym (each_of_range n (λ p. leb (length (leaving c.args.links.now p)) 8))
