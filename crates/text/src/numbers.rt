@@ -2,9 +2,10 @@
 ghost use Rattle.std.specs.Prelude.{◌≡◌, ◌+◌, ◌≤◌, true, length, is_ok, vec_len, vec_capacity};
 ghost use Rattle.std.specs.Str.{bytes_eq};
 ghost use Rattle.text.specs.Decimal.{ReadsBack, digits, number_of, unpadded};
-ghost use Rattle.text.specs.Writing.{Appends, Placed, Put};
+ghost use Rattle.text.specs.Writing.{Appends, Put};
 
 use crate::bytes::put_bytes;
+use arrayvec::ArrayVec;
 use std::alloc::AllocError;
 
 // The largest number that is read.
@@ -57,9 +58,7 @@ pub fn spells(bytes: &[u8], n: u32) -> bool
 pub fn put_number(buf: &mut [u8], at: usize, n: u64) -> Option<usize>
     ensures { Put buf.old at (digits n) result buf.new }
 {
-    let mut scratch = [0; MOST_DIGITS];
-    let count = put_digits(&mut scratch, n);
-    put_bytes(buf, at, &scratch[0..count])
+    put_bytes(buf, at, &digits_of(n))
 }
 
 // Appends the digits of n. Without memory for them, the list stays as it is.
@@ -68,18 +67,19 @@ pub fn append_number(out: &mut Vec<u8>, n: u64) -> Result<(), AllocError>
     ensures succeeds { vec_len out.old + length (digits n) ≤ vec_capacity out.old → is_ok result ≡ true }
     ensures capacity { vec_capacity out.old ≤ vec_capacity out.new }
 {
-    let mut scratch = [0; MOST_DIGITS];
-    let count = put_digits(&mut scratch, n);
-    out.extend_from_slice(&scratch[0..count])
+    out.extend_from_slice(&digits_of(n))
 }
 
-// Writes the digits of n at the front of the buffer, and answers how many there are.
-fn put_digits(buf: &mut [u8], n: u64) -> usize
-    requires { length (digits n) ≤ length buf.old }
-    ensures { Placed buf.old 0 (digits n) result buf.new }
+// The digits of n: those of its tenth part, unless that is 0, and then its last.
+fn digits_of(n: u64) -> ArrayVec<u8, MOST_DIGITS>
+    ensures { result.items ≡ digits n }
 {
     let tenth = n / 10;
-    let end = if tenth > 0 { put_digits(buf, tenth) } else { 0 };
-    buf[end] = b'0' + (n % 10) as u8;
-    end + 1
+    let mut all = if tenth > 0 {
+        digits_of(tenth)
+    } else {
+        ArrayVec::new()
+    };
+    all.push(b'0' + (n % 10) as u8);
+    all
 }
