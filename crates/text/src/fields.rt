@@ -4,7 +4,7 @@ ghost use Rattle.text.specs.Fields.{Answer, cut_line, filled, found};
 ghost use Rattle.text.specs.Grammar.{Grammar};
 
 // A quote misplaced or unclosed, or a byte outside 32 to 126, in the field of this number, counted from 1.
-#[derive(Clone, Copy, Debug, PartialEq)]
+#[derive(Clone, Copy, Debug, PartialEq, Eq)]
 pub struct Malformed {
     pub field: usize,
 }

@@ -8,9 +8,6 @@ use crate::bytes::put_bytes;
 use arrayvec::ArrayVec;
 use std::alloc::AllocError;
 
-// The largest number that is read.
-const LARGEST: u64 = 0xffff_ffff;
-
 // How many digits the largest u64 has.
 const MOST_DIGITS: usize = 20;
 
@@ -21,28 +18,19 @@ pub fn read_number(bytes: &[u8]) -> Option<u32>
     if !is_unpadded(bytes) {
         return None;
     }
-    let mut value: u64 = 0;
+    let mut value: u32 = 0;
     for byte in bytes {
-        if !byte.is_ascii_digit() {
-            return None;
-        }
-        value = value * 10 + u64::from(*byte - b'0');
-        if value > LARGEST {
-            return None;
-        }
+        let digit = char::from(*byte).to_digit(10)?;
+        value = value.checked_mul(10)?.checked_add(digit)?;
     }
-    Some(value as u32)
+    Some(value)
 }
 
 // Whether there is a byte, and no leading zero.
 fn is_unpadded(bytes: &[u8]) -> bool
     ensures { result ≡ unpadded bytes.now }
 {
-    match bytes {
-        [] => false,
-        [_] => true,
-        [first, ..] => *first != b'0',
-    }
+    !matches!(bytes, [] | [b'0', _, ..])
 }
 
 // Whether the bytes are the digits of n.
