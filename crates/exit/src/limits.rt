@@ -6,5 +6,5 @@ ghost use Rattle.exit.specs.Limits.{between};
 pub fn between(low: u32, high: u32, n: u32) -> bool
     ensures { result ≡ between low high n }
 {
-    low <= n && n <= high
+    (low..=high).contains(&n)
 }
