@@ -1,14 +1,25 @@
--- Values with limits: one is made where the test holds, and it matters not how the test was shown.
-use Rattle.std.proofs.Common.{◌≡◌, Bool, true, false, Some, refl, ap, ◌∙◌}
+-- Values with limits: it matters not how it was shown that they are within.
+use Rattle.std.proofs.Common.{◌≡◌, ℕ, ◌+◌, ◌*◌, ◌<◌, Bool, true, false, Some, refl, ap, arith}
 use mathlib.Core.Bool.{Bool-set}
 use mathlib.Core.HLevel.{is_prop→PathP}
-use mathlib.Core.Path.{PathP}
 use Rattle.std.proofs.lemmas.Bool.{both_ways}
 use Rattle.exit.specs.Limits.{made_if}
 
-pub some_made : {A : Type 0} (test : Bool) (make : test ≡ true → A) (x : A) (ok : test ≡ true) → x ≡ make ok → Some x ≡ made_if test make
-some_made true make x ok e = ap Some e ∙ ap (λ k. Some (make k)) (Bool-set true true ok refl)
-some_made false make x ok e = absurd (both_ways false refl ok)
+-- One is made where the test holds.
+pub some_made : {A : Type 0} (test : Bool) (make : test ≡ true → A) (ok : test ≡ true) → Some (make ok) ≡ made_if test make
+some_made true make ok = ap (λ k. Some (make k)) (Bool-set true true ok refl)
+some_made false make ok = absurd (both_ways false refl ok)
 
-pub same_limits : (test : 𝕀 → Bool) (p : test 0 ≡ true) (q : test 1 ≡ true) → PathP (λ i. test i ≡ true) p q
-same_limits test p q = is_prop→PathP (λ i. test i ≡ true) (λ i. Bool-set (test i) true) p q
+-- Those that are made of equal parts are equal.
+pub same_made : {F V : Type 0} (within : F → Bool) (make : (f : F) → within f ≡ true → V) {f g : F} (p : within f ≡ true) (q : within g ≡ true)
+    → f ≡ g → make f p ≡ make g q
+same_made within make p q e = λ i. make (e i) (is_prop→PathP (λ j. within (e j) ≡ true) (λ j. Bool-set (within (e j)) true) p q i)
+
+-- Those that are made of two numbers, the second below 65,536, are equal if one number stands for both.
+pub same_coded : {V : Type 0} (within : ℕ → ℕ → Bool) (make : (m n : ℕ) → within m n ≡ true → V) {m n k l : ℕ}
+    (p : within m n ≡ true) (q : within k l ≡ true)
+    → n < 65536 → l < 65536 → m * 65536 + n ≡ k * 65536 + l → make m n p ≡ make k l q
+same_coded within make {m} {n} {k} {l} p q low lower e =
+    let first : m ≡ k = omega arith in
+    let second : n ≡ l = omega arith in
+    same_made {F = ℕ × ℕ} (λ f. within f.0 f.1) (λ f. make f.0 f.1) {f = (m, n)} {g = (k, l)} p q (λ i. (first i, second i))

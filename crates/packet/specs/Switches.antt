@@ -1,5 +1,5 @@
 -- Switches: what they are made of, and their rule.
-use Rattle.std.specs.Prelude.{ℕ, Some, Option}
+use Rattle.std.specs.Prelude.{◌≡◌, ℕ, true, Some, Option}
 use Rattle.model.specs.declared.sending.Sending.{Sending}
 use Rattle.exit.specs.Limits.{made_if}
 use Rattle.packet.specs.declared.frame.Frame.{Frame}
@@ -7,12 +7,13 @@ use Rattle.packet.specs.declared.switch.Switch.{Switch}
 use Rattle.packet.specs.Limits.{switch_within}
 use Rattle.packet.specs.Serving.{end_of, port_of}
 
+-- The switch of a lookahead and a service within the limits, free from a time on.
+abbrev pub switch_with : (lookahead service : ℕ) → ℕ → switch_within lookahead service ≡ true → Switch
+switch_with lookahead service time ok = record { lookahead = lookahead; service = service; free = time; limits = ok }
+
 -- The switch of a lookahead and a service from 1 to 10,000, free from time 0. There is no other.
 abbrev pub switch_of : ℕ → ℕ → Option Switch
-switch_of lookahead service =
-    made_if
-    (switch_within lookahead service)
-    (λ ok. record { lookahead = lookahead; service = service; free = 0; limits = ok })
+switch_of lookahead service = made_if (switch_within lookahead service) (switch_with lookahead service 0)
 
 -- The lookahead of a switch.
 abbrev pub switch_lookahead : Switch → ℕ
@@ -20,7 +21,7 @@ switch_lookahead s = s.lookahead
 
 -- The switch, free from another time.
 abbrev pub freed : Switch → ℕ → Switch
-freed s time = record { lookahead = s.lookahead; service = s.service; free = time; limits = s.limits }
+freed s time = switch_with s.lookahead s.service time s.limits
 
 -- When the switch has served a frame that comes at this time.
 abbrev pub served_at : Switch → ℕ → Frame → ℕ

@@ -1,8 +1,8 @@
 //! The number that stands for a frame in a log.
-ghost use Rattle.packet.specs.Frames.{frame_code};
-ghost use Rattle.std.specs.Prelude.{◌≡◌};
+ghost use Rattle.exit.proofs.Made.{same_coded};
+ghost use Rattle.packet.specs.Frames.{frame_code, frame_with};
+ghost use Rattle.packet.specs.Limits.{frame_within};
 ghost use Rattle.std.proofs.Common.{rules, arith};
-ghost use Rattle.packet.specs.SameFrame.{same_frame};
 
 use super::Frame;
 use model::cargo::Cargo;
@@ -13,9 +13,7 @@ impl Cargo for Frame {
     ghost small = { Prim.search rules };
 
     ghost distinct = { λ x y e.
-        let to : x.destination ≡ y.destination = Prim.search rules in
-        let long : x.length ≡ y.length = Prim.search rules in
-        same_frame x y to long };
+        same_coded frame_within frame_with x.limits y.limits (Prim.search rules) (Prim.search rules) e };
 
     fn code(&self) -> u32 {
         self.destination * 65_536 + self.length

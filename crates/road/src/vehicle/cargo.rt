@@ -1,8 +1,8 @@
 //! The number that stands for a vehicle in a log.
-ghost use Rattle.road.specs.Vehicles.{vehicle_code};
-ghost use Rattle.std.specs.Prelude.{◌≡◌};
+ghost use Rattle.exit.proofs.Made.{same_coded};
+ghost use Rattle.road.specs.Limits.{vehicle_within};
+ghost use Rattle.road.specs.Vehicles.{vehicle_code, vehicle_with};
 ghost use Rattle.std.proofs.Common.{rules, arith};
-ghost use Rattle.road.specs.SameVehicle.{same_vehicle};
 
 use super::Vehicle;
 use model::cargo::Cargo;
@@ -13,9 +13,7 @@ impl Cargo for Vehicle {
     ghost small = { Prim.search rules };
 
     ghost distinct = { λ x y e.
-        let class : x.class ≡ y.class = Prim.search rules in
-        let route : x.route ≡ y.route = Prim.search rules in
-        same_vehicle x y class route };
+        same_coded vehicle_within vehicle_with x.limits y.limits (Prim.search rules) (Prim.search rules) e };
 
     fn code(&self) -> u32 {
         self.class * 65_536 + self.route

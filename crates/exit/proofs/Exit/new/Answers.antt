@@ -1,6 +1,5 @@
-use Rattle.std.proofs.Common.{refl}
 use Rattle.exit.proofs.Made.{some_made}
 use Rattle.exit.proofs.Exit.new.Goals as goal
 
 pub returns-then-between : goal.returns-then-between
-returns-then-between c = some_made _ _ _ _ refl
+returns-then-between c = some_made _ _ _

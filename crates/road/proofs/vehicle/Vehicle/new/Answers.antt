@@ -1,6 +1,5 @@
-use Rattle.std.proofs.Common.{refl}
 use Rattle.exit.proofs.Made.{some_made}
 use Rattle.road.proofs.vehicle.Vehicle.new.Goals as goal
 
 pub returns-then-between-2 : goal.returns-then-between-2
-returns-then-between-2 c = some_made _ _ _ _ refl
+returns-then-between-2 c = some_made _ _ _

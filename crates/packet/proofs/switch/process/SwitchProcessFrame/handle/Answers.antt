@@ -1,7 +1,11 @@
-use Rattle.std.proofs.Common.{refl, rules}
+use Rattle.std.proofs.Common.{rules}
 use Rattle.exit.proofs.Outcome.{same_outcome}
-use Rattle.packet.proofs.SameSwitch.{same_switch}
+use Rattle.exit.proofs.Made.{same_made}
+use Rattle.packet.specs.Limits.{switch_within}
+use Rattle.packet.specs.Switches.{switch_with}
 use Rattle.packet.proofs.switch.process.SwitchProcessFrame.handle.Goals as goal
 
 pub returns : goal.returns
-returns c = same_outcome _ _ _ _ (same_switch _ _ refl refl (search rules)) (search rules)
+returns c =
+    let s = c.args.self.now in
+    same_outcome (same_made (λ free. switch_within s.lookahead s.service) (switch_with s.lookahead s.service) _ _ (search rules)) (search rules)
