@@ -1,3 +1,2 @@
 pub mod Delaying
-pub mod Freshness
 pub mod Rationing

@@ -1,11 +1,13 @@
 -- A layer of quotas: what it makes of a put and of a take, and how it begins.
-use Rattle.std.proofs.Common.{◌≡◌, ℕ, ◌+◌, ◌-◌, ◌<◌, min, ◌≢◌, List, ◌∷◌, length, get_or, set, replicate, Some, sym, refl, ap, ◌∙◌, ⊎_elim, arith}
+use Rattle.std.proofs.Common.{◌≡◌, ℕ, ◌+◌, ◌-◌, ◌<◌, min, ◌≢◌, List, ◌∷◌, length, get_or, set, replicate, Some, Ok, Err, Result, true, sym, refl, ap, ◌∙◌, ⊎_elim, arith}
 use Rattle.std.proofs.lemmas.List.{length_push, get_or-replicate, get_or-set_same, get_or-set_other}
 use Rattle.std.proofs.lemmas.Bool.{cases_eq}
+use Rattle.std.specs.Result.{is_ok}
 use Rattle.model.specs.declared.event.Event.{Event}
+use Rattle.model.specs.declared.fault.LinkFault.{LinkFault}
 use Rattle.model.specs.Sums.{largest}
 use Rattle.model.specs.Pile.{Pile, Sound}
-use Rattle.model.specs.Linking.{Steady, Apart, PutDone, TakeDone}
+use Rattle.model.specs.Linking.{Steady, Apart, Put, PutDone, TakeDone}
 use Rattle.layers.specs.Layer.{Laid}
 use Rattle.layers.specs.Rationed.{largest_quota, quota_of, unused, rationed}
 use Rattle.layers.specs.Soundness.{within_quota}
@@ -32,6 +34,12 @@ module _ {C : Type 0} (m n : Pile C) (left : List ℕ) (k x : ℕ) (away : Apart
 
   apart : Apart (rationed m left) (rationed n (set left k x)) k
   apart = record { waiting = away.waiting; floor = away.floor }
+
+-- What is not refused is done.
+pub not_refused : {C : Type 0} {m n : Pile C} {k t : ℕ} {c : C} (r : Result (Unit {0}) LinkFault)
+    → true ≡ is_ok r → Put m k t c r n → PutDone m k t c n
+not_refused (Ok done) e h = h
+not_refused (Err fault) e h = cc
 
 module _ {C : Type 0} (m n : Pile C) (left : List ℕ) (k x : ℕ) (here : k < length left) where
   pub put_done : (t : ℕ) (c : C) → x ≡ get_or left k 0 - 1 → unused m left k ≢ 0 → PutDone m k t c n

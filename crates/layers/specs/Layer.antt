@@ -6,6 +6,7 @@ use Rattle.model.specs.declared.fault.SettingFault.{SettingFault}
 use Rattle.model.specs.declared.fault.SettingFault.TheVariants.{NoSuchLink, Unsuitable}
 use Rattle.model.specs.Sums.{plus}
 use Rattle.model.specs.Pile.{Pile, Fresh}
+use Rattle.model.specs.Linking.{AskFails}
 
 -- A fault of the links below, one layer further up: the layer that it names stands one lower there.
 abbrev pub lowered : LinkFault → LinkFault
@@ -26,11 +27,10 @@ pub record Laid {C : Type 0} (quota : Option ℕ) (m n : Pile C) : Type 0 where
   pub quotas : (k : ℕ) → k < m.count → n.quotas k ≡ quota ∷ m.quotas k
 
 -- Whether the link k is fresh, if it is there.
-abbrev pub Freshness : {C : Type 0} → Pile C → ℕ → Result Bool SettingFault → Type 0
+abbrev pub Freshness : {C : Type 0} → Pile C → ℕ → Result Bool LinkFault → Type 0
 Freshness m k (Ok true) = (k < m.count) × Fresh m k
 Freshness m k (Ok false) = (k < m.count) × (Fresh m k → ⊥)
-Freshness m k (Err NoSuchLink) = m.count ≤ k
-Freshness m k (Err Unsuitable) = ⊥
+Freshness m k (Err fault) = AskFails m k fault
 
 -- A layer over so many links is asked to set the link k to x. It does if the link is there and x suits it; else its table stays.
 abbrev pub Setting : ℕ → Type 0 → List ℕ → ℕ → ℕ → Result (Unit {0}) SettingFault → List ℕ → Type 0

@@ -5,7 +5,7 @@ ghost use Rattle.layers.specs.Delayed.{delayed, added, later, DelayTable, DelayS
 ghost use Rattle.model.specs.Linking.{Asked};
 ghost use Rattle.layers.specs.Soundness.{delayed_sound};
 
-use crate::fault::passed_on;
+use crate::fault::{absent, passed_on};
 use crate::fresh::is_fresh;
 use model::cargo::Cargo;
 use model::event::Event;
@@ -20,13 +20,6 @@ pub const LONGEST_DELAY: u32 = 1_000_000;
 pub struct Delay<L> {
     below: L,
     extra: [u32; 128],
-}
-
-// No delay on any link.
-fn no_delays() -> [u32; 128]
-    ensures { result ≡ replicate 128 0 }
-{
-    [0; 128]
 }
 
 // The event, so much later.
@@ -49,7 +42,7 @@ impl<L> Delay<L> {
     {
         Delay {
             below,
-            extra: no_delays(),
+            extra: [0; 128],
         }
     }
 
@@ -57,8 +50,7 @@ impl<L> Delay<L> {
     pub fn into_below(self) -> L
         ensures { result ≡ self.below }
     {
-        let Delay { below, extra: _ } = self;
-        below
+        self.below
     }
 
     // Sets what this layer adds on a fresh link, in place of what it added before.
@@ -69,10 +61,9 @@ impl<L> Delay<L> {
         ensures table { DelayTable (L.Links.meaning self.old.below) self.old.extra link delay result self.new.extra }
         ensures meaning { DelaySet (L.Links.meaning self.old.below) self.old.extra link delay result (delayed (L.Links.meaning self.new.below) self.new.extra) }
     {
-        let Ok(below) = self.below.delay(link) else {
-            return Err(SettingFault::NoSuchLink);
-        };
-        if !is_fresh(&self.below, link)? || delay > LONGEST_DELAY - below {
+        let below = self.below.delay(link).map_err(absent)?;
+        let fresh = is_fresh(&self.below, link).map_err(absent)?;
+        if !fresh || delay > LONGEST_DELAY - below {
             return Err(SettingFault::Unsuitable);
         }
         self.extra[link] = delay;
@@ -96,10 +87,7 @@ impl<C: Cargo, L: Links<C>> Links<C> for Delay<L> {
     ghost sound = { λ s. delayed_sound (L.Links.meaning s.below) s.extra (L.Links.sound s.below) };
 
     fn put(&mut self, link: usize, time: u32, cargo: C) -> Result<(), LinkFault> {
-        match self.below.put(link, time, cargo) {
-            Ok(()) => Ok(()),
-            Err(fault) => Err(passed_on(fault)),
-        }
+        self.below.put(link, time, cargo).map_err(passed_on)
     }
 
     fn null(&mut self, link: usize, time: u32) -> Result<(), LinkFault> {
@@ -108,10 +96,8 @@ impl<C: Cargo, L: Links<C>> Links<C> for Delay<L> {
 
     fn first(&self, link: usize) -> Result<Option<Event<C>>, LinkFault> {
         let by = self.added(link)?;
-        match self.below.first(link)? {
-            Some(event) => Ok(Some(postponed(event, by))),
-            None => Ok(None),
-        }
+        let first = self.below.first(link)?;
+        Ok(first.map(|event| postponed(event, by)))
     }
 
     fn take(&mut self, link: usize) -> Result<Event<C>, LinkFault> {

@@ -5,7 +5,7 @@ ghost use Rattle.layers.specs.Rationed.{rationed, quota_of, unused, TimeChecked,
 ghost use Rattle.layers.specs.Soundness.{rationed_sound};
 ghost use Rattle.model.specs.Linking.{Asked};
 
-use crate::fault::passed_on;
+use crate::fault::{absent, passed_on};
 use crate::fresh::is_fresh;
 use model::cargo::Cargo;
 use model::event::Event;
@@ -22,13 +22,6 @@ pub struct Quota<L> {
     left: [u32; 128],
 }
 
-// The largest quota for each link, with nothing used.
-fn largest_quotas() -> [u32; 128]
-    ensures { result ≡ replicate 128 65535 }
-{
-    [LARGEST_QUOTA; 128]
-}
-
 impl<L> Quota<L> {
     // Lays a layer with the largest quotas over these links.
     pub fn new<C: Cargo>(below: L) -> Self
@@ -39,7 +32,7 @@ impl<L> Quota<L> {
     {
         Quota {
             below,
-            left: largest_quotas(),
+            left: [LARGEST_QUOTA; 128],
         }
     }
 
@@ -47,8 +40,7 @@ impl<L> Quota<L> {
     pub fn into_below(self) -> L
         ensures { result ≡ self.below }
     {
-        let Quota { below, left: _ } = self;
-        below
+        self.below
     }
 
     // Sets the quota of a fresh link, in place of the one before.
@@ -59,7 +51,8 @@ impl<L> Quota<L> {
         ensures table { QuotaTable (L.Links.meaning self.old.below) self.old.left link quota result self.new.left }
         ensures meaning { QuotaSet (L.Links.meaning self.old.below) self.old.left link quota result (rationed (L.Links.meaning self.new.below) self.new.left) }
     {
-        if !is_fresh(&self.below, link)? || quota == 0 || quota > LARGEST_QUOTA {
+        let fresh = is_fresh(&self.below, link).map_err(absent)?;
+        if !fresh || !(1..=LARGEST_QUOTA).contains(&quota) {
             return Err(SettingFault::Unsuitable);
         }
         self.left[link] = quota;
@@ -114,13 +107,9 @@ impl<C: Cargo, L: Links<C>> Links<C> for Quota<L> {
         if self.unused(link)? == 0 {
             return Err(LinkFault::Full(0));
         }
-        match self.below.put(link, time, cargo) {
-            Ok(()) => {
-                self.left[link] = self.left[link].saturating_sub(1);
-                Ok(())
-            }
-            Err(fault) => Err(passed_on(fault)),
-        }
+        self.below.put(link, time, cargo).map_err(passed_on)?;
+        self.left[link] = self.left[link].saturating_sub(1);
+        Ok(())
     }
 
     fn null(&mut self, link: usize, time: u32) -> Result<(), LinkFault> {
