@@ -10,4 +10,5 @@ pub mod Assembled
 pub mod Called
 pub mod Breaching
 pub mod Recorded
+pub mod Compared
 pub mod FromOutside

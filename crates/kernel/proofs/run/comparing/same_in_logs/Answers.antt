@@ -1,19 +1,22 @@
-use Rattle.std.proofs.Common.{List, ◌∷◌, drop, sym, ap, ◌∙◌}
-use mathlib.Core.List.{tail}
+use Rattle.std.proofs.Common.{rules, eqb}
+use Rattle.std.proofs.lemmas.Iterator.{YieldsList-from_slice}
+use Rattle.std.proofs.lemmas.Iterator.Consumers.{YieldsList-from_filter, YieldsList-at}
+use borrow.Author.Tests.{tests}
 use Rattle.model.specs.declared.record.Record.{Record}
-use Rattle.simulation.specs.View.{history}
+use Rattle.kernel.proofs.Compared.{history_is, eq_from_yields_List}
 use Rattle.kernel.proofs.run.comparing.same_in_logs.Goals as goal
 
-pub loop-after_a-init : goal.loop-after_a-init
-loop-after_a-init c = ((λ e. e), (λ e. e))
-
-pub loop-after_a-preserved : goal.loop-after_a-preserved
-loop-after_a-preserved c =
-    let here = c.in-Some-Some in
-    let inv = c.loop-after_a.invariant in
-    let a = here.ensures.0 in
-    let b = here.ensures'.0 in
-    let rest : List Record = history c.args.process (drop here.after_b c.args.b.now) in (
-      (λ e. inv.0 (a ∙ ap (λ l. here.one ∷ l) e ∙ ap (λ x. x ∷ rest) c.if-not-same_record.ensures ∙ sym b)),
-      (λ e. ap tail (sym a ∙ inv.1 e ∙ b)),
-    )
+pub returns : goal.returns
+returns c =
+    let p = c.args.process in
+    rw (history_is p c.args.a.now, history_is p c.args.b.now)
+    (eq_from_yields_List _ _ c.eq.ensures.ran
+    (YieldsList-from_filter _ (λ (r : Record). eqb r.process p)
+    (YieldsList-at c.filter.ensures.source (YieldsList-from_slice c.args.a.now cc)) c.filter.ensures.closure
+    (λ x r q k. search (rules, tests)))
+    (λ it same. YieldsList-at same
+    (YieldsList-from_filter _ (λ (r : Record). eqb r.process p)
+    (YieldsList-at c.filter-2.ensures.source (YieldsList-from_slice c.args.b.now cc)) c.filter-2.ensures.closure
+    (λ x r q k. search (rules, tests))))
+    (λ x y e. search (rules, tests))
+    (λ x y e q. search (rules, tests)))
