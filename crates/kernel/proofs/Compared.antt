@@ -1,16 +1,9 @@
--- What two chains of iterators give, compared by `eq`; and a history as the records that pass a test.
-use Rattle.std.proofs.Common.{◌≡◌, ℕ, Bool, true, false, cond, eqb, List, [], ◌∷◌, Some, None, Option, MatchOption, IfSome, refl, sym, ap, ◌∙◌, subst}
-use Rattle.std.specs.List.{filter, AllZip}
+-- What `eq` of two chains of iterators says.
+use Rattle.std.proofs.Common.{◌≡◌, ℕ, Bool, true, false, List, [], ◌∷◌, Some, None, Option, MatchOption, IfSome, refl, sym, ◌∙◌, subst}
+use Rattle.std.specs.List.{AllZip}
 use Rattle.std.specs.Iterator.{AlwaysYields, YieldsThen, ComparesItemsByEq}
 use Rattle.std.proofs.lemmas.Iterator.{YieldsList}
-use Rattle.model.specs.declared.record.Record.{Record}
-use Rattle.simulation.specs.View.{history}
 use Rattle.kernel.specs.Deciding.{Decided}
-
--- A history is the records that name the process.
-pub history_is : (p : ℕ) (rs : List Record) → history p rs ≡ filter (λ r. eqb r.process p) rs
-history_is p [] = refl
-history_is p (r ∷ rs) = ap (λ t. cond (eqb r.process p) (r ∷ t) t) (history_is p rs)
 
 module _ {S T A B : Type 0} (steps : S → Option A → S → Type 0) (others : T → Option A → T → Type 0) (v : A → B) (eq : A → A → Bool)
     (same : (x y : A) → eq x y ≡ true → v x ≡ v y) (differ : (x y : A) → eq x y ≡ false → v x ≡ v y → ⊥) (r : Bool) where

@@ -39,14 +39,10 @@ impl<C: Cargo, P: Process<C>, L: Links<C>> Run<C, P, L> {
     fn taken_by(&self, process: usize) -> usize
         ensures { result ≡ length (history process self.now.log.items) }
     {
-        let mut count: usize = 0;
-        let log = self.log.as_slice();
-        for record in log {
-            if record.process == process {
-                count += 1;
-            }
-        }
-        count
+        self.log
+            .iter()
+            .filter(|record| record.process == process)
+            .count()
     }
 
     // How many events a process has taken.
@@ -63,17 +59,12 @@ impl<C: Cargo, P: Process<C>, L: Links<C>> Run<C, P, L> {
     fn record_of(&self, process: usize, place: usize) -> Result<Record, Refusal>
         ensures { result ≡ found (at (history process self.now.log.items) place) }
     {
-        let mut left = place;
-        let log = self.log.as_slice();
-        for record in log {
-            if record.process == process {
-                if left == 0 {
-                    return Ok(*record);
-                }
-                left -= 1;
-            }
-        }
-        Err(Refusal::NoSuch)
+        self.log
+            .iter()
+            .filter(|record| record.process == process)
+            .nth(place)
+            .copied()
+            .ok_or(Refusal::NoSuch)
     }
 
     // The record at a place of a process's history, counted from 0.
@@ -106,13 +97,8 @@ impl<C: Cargo, P: Process<C>, L: Links<C>> Run<C, P, L> {
         requires links { (L.Links.meaning self.now.links).count ≡ length (shape_of self.now.routes.plan).links }
         ensures { result ≡ each processes (λ p. nat_eq (clock (shape_of self.now.routes.plan) (L.Links.meaning self.now.links) p) self.now.routes.plan.horizon) }
     {
-        let mut all = true;
         let horizon = self.routes.horizon();
-        for process in 0..processes {
-            let ended = self.clock_now(process) == horizon;
-            all = all && ended;
-        }
-        all
+        (0..processes).all(|process| self.clock_now(process) == horizon)
     }
 
     // Whether the run is finished: every clock is at the horizon.

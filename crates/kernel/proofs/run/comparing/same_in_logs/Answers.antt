@@ -3,7 +3,8 @@ use Rattle.std.proofs.lemmas.Iterator.{YieldsList-from_slice}
 use Rattle.std.proofs.lemmas.Iterator.Consumers.{YieldsList-from_filter, YieldsList-at}
 use borrow.Author.Tests.{tests}
 use Rattle.model.specs.declared.record.Record.{Record}
-use Rattle.kernel.proofs.Compared.{history_is, eq_from_yields_List}
+use Rattle.kernel.proofs.Chains.{history_is}
+use Rattle.kernel.proofs.Compared.{eq_from_yields_List}
 use Rattle.kernel.proofs.run.comparing.same_in_logs.Goals as goal
 
 pub returns : goal.returns
