@@ -1,48 +1,32 @@
--- A run of this type is as it was prepared, but perhaps for its links.
-use Rattle.std.proofs.Common.{◌≡◌, ℕ, ◌<◌, ◌≤◌, Bool, true, false, ◌&&◌, eqb, ltb, length, Some, sym, refl, ap, ◌∙◌, arith, rules}
-use Rattle.std.proofs.lemmas.Bool.{and_from, and_parts, eq-eqb, eqb-true, lt-ltb, ltb-true, le-leb}
+-- A run is as it was prepared.
+use Rattle.std.proofs.Common.{◌≡◌, ℕ, ◌<◌, true, ◌&&◌, ltb, length, Some, sym, ap, ◌∙◌, arith, rules}
+use Rattle.std.proofs.lemmas.Bool.{eq-eqb, lt-ltb, ltb-true, le-leb}
+use Rattle.model.specs.declared.cargo.Cargo as Cargo
+use Rattle.model.specs.declared.links.Links as Links
+use Rattle.model.specs.declared.process.Process as Process
 use Rattle.model.specs.Lists.{at}
-use Rattle.model.specs.Pile.{Pile}
 use Rattle.simulation.specs.View.{View, has, as_prepared}
 use Rattle.simulation.specs.Step.{Ready}
 use Rattle.kernel.specs.declared.run.Run.{Run}
 use Rattle.kernel.specs.OfRun.{view_of}
 
-and_turned : (a b : Bool) → (a && b) ≡ (b && a)
-and_turned true true = refl
-and_turned true false = refl
-and_turned false true = refl
-and_turned false false = refl
-
-module _ {C P L : Type 0} (meaning : L → Pile C) (r : Run C P L) where
+module _ {C P L : Type 0} {c : Cargo.Ghosts C} {p : Process.Ghosts P C} {l : Links.Ghosts L C} (r : Run C P L c p l) where
   abbrev v : View C P
-  v = view_of meaning r
+  v = view_of l.meaning r
 
-  people : length v.processes ≡ v.plan.processes
-  people = sym r.processes.ok.0 ∙ r.peopled
-
-  records : length v.log ≤ v.room
-  records = omega (arith, r.log.ok.0, r.logged)
-
-  -- The links alone may be too few or too many.
-  pub prepared_is : as_prepared v ≡ eqb v.links.count (length v.plan.links)
+  pub prepared_is : as_prepared v ≡ true
   prepared_is =
-      let a = eq-eqb (length v.processes) v.plan.processes people in
-      let b = le-leb (length v.log) v.room records in
+      let a = eq-eqb (length v.processes) v.plan.processes (sym r.processes.ok.0 ∙ r.peopled) in
+      let b = eq-eqb v.links.count (length v.plan.links) r.joined in
+      let c = le-leb (length v.log) v.room (omega (arith, r.log.ok.0, r.logged)) in
       search rules
 
-  -- A process that there is, over as many links as planned.
-  pub there : (p : ℕ) → p < v.plan.processes → v.links.count ≡ length v.plan.links → has v p ≡ true
-  there p l e = and_from _ _ (prepared_is ∙ eq-eqb v.links.count (length v.plan.links) e) (lt-ltb p v.plan.processes l)
+  -- So what a test of a process tests is its number.
+  pub has_is : (q : ℕ) → has v q ≡ ltb q v.plan.processes
+  has_is q = ap (λ b. b && ltb q v.plan.processes) prepared_is
 
-  pub ready : (p : ℕ) (s : P) → p < v.plan.processes → v.links.count ≡ length v.plan.links → at v.processes p ≡ Some s → Ready v p s
-  ready p s l e is = record { there = there p l e; state = is }
+  pub has_there : (q : ℕ) → has v q ≡ true → q < v.plan.processes
+  has_there q e = ltb-true q v.plan.processes (sym (has_is q) ∙ e)
 
-  -- What the test of a process says.
-  pub has_is : (p : ℕ) → has v p ≡ (ltb p v.plan.processes && eqb v.links.count (length v.plan.links))
-  has_is p = ap (λ b. b && ltb p v.plan.processes) prepared_is ∙ and_turned (eqb v.links.count (length v.plan.links)) (ltb p v.plan.processes)
-
-  pub has_both : (p : ℕ) → has v p ≡ true → (p < v.plan.processes) × (v.links.count ≡ length v.plan.links)
-  has_both p e =
-      let both = and_parts (ltb p v.plan.processes) (eqb v.links.count (length v.plan.links)) (sym (has_is p) ∙ e) in
-      (ltb-true p v.plan.processes both.0, eqb-true v.links.count (length v.plan.links) both.1)
+  pub ready : (q : ℕ) (s : P) → q < v.plan.processes → at v.processes q ≡ Some s → Ready v q s
+  ready q s h is = record { there = has_is q ∙ lt-ltb q v.plan.processes h; state = is }

@@ -1,8 +1,11 @@
 -- A run as its reader sees it.
 use Rattle.std.specs.Prelude.{◌≡◌, ℕ, List, [], ◌∷◌, Ok, Err, vec_items, Result, Vec}
 use Rattle.std.specs.declared.alloc.Global.{Global}
+use Rattle.model.specs.declared.cargo.Cargo as Cargo
+use Rattle.model.specs.declared.links.Links as Links
 use Rattle.model.specs.declared.opening.Opening.{Opening}
 use Rattle.model.specs.declared.plan.Plan.{Plan}
+use Rattle.model.specs.declared.process.Process as Process
 use Rattle.model.specs.Made.{shape_of}
 use Rattle.model.specs.Pile.{Pile}
 use Rattle.simulation.specs.Net.{Program, Net}
@@ -14,7 +17,8 @@ use Rattle.kernel.specs.declared.run.NotPrepared.{NotPrepared}
 use Rattle.kernel.specs.Bits.{bit}
 
 -- What a run shows, over links of this meaning.
-abbrev pub view_of : {C P L : Type 0} → (L → Pile C) → Run C P L → View C P
+abbrev pub view_of : {C P L : Type 0} {c : Cargo.Ghosts C} {p : Process.Ghosts P C} {l : Links.Ghosts L C}
+    → (L → Pile C) → Run C P L c p l → View C P
 view_of meaning r = record {
   plan = shape_of r.routes.plan;
   processes = vec_items r.processes;
@@ -31,7 +35,8 @@ pub record Called {C P : Type 0} (g : Program C P) (c : Call) (v : View C P) (a 
   pub stands : (net : Net C P) (cs : List Call) → After g net cs v → After g net (c ∷ cs) w
 
 -- Prepare, from a net and with a log of this size: a run that stands after no call, or why not, with the parts as the rules leave them.
-abbrev pub Answered : {C P L : Type 0} → Program C P → (L → Pile C) → Plan → Vec P Global → List (Opening C) → L → ℕ → Result (Run C P L) (NotPrepared P L) → Type 0
+abbrev pub Answered : {C P L : Type 0} {c : Cargo.Ghosts C} {p : Process.Ghosts P C} {l : Links.Ghosts L C}
+    → Program C P → (L → Pile C) → Plan → Vec P Global → List (Opening C) → L → ℕ → Result (Run C P L c p l) (NotPrepared P L) → Type 0
 Answered {C} {P} g meaning plan processes opening links size (Ok run) =
     let net : Net C P = record { plan = shape_of plan; processes = vec_items processes; opening = opening } in
     Prepares net (meaning links) size (Ok (view_of meaning run)) (meaning run.links) × After g net [] (view_of meaning run)

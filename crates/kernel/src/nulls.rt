@@ -1,6 +1,5 @@
 //! The null stage.
-ghost use Rattle.std.specs.Prelude.{◌≡◌, ◌+◌, ◌<◌, ◌≤◌, length};
-ghost use Rattle.model.specs.Linking.{Timely, NullDone};
+ghost use Rattle.std.specs.Prelude.{◌≡◌, ◌+◌, ◌<◌, ◌≤◌, if◌then◌else◌, [], ◌∷◌, length};
 ghost use Rattle.simulation.specs.Step.{Nulls};
 ghost use Rattle.kernel.specs.Places.{Below};
 
@@ -8,15 +7,18 @@ use crate::asking::{delay_of, floor_of};
 use model::cargo::Cargo;
 use model::links::Links;
 
-// Puts a null that its link cannot refuse.
-pub(crate) fn raise<C: Cargo, L: Links<C>>(links: &mut L, link: usize, time: u32)
-    requires { Timely (L.Links.meaning links.old) link time }
-    ensures { NullDone (L.Links.meaning links.old) link time (L.Links.meaning links.new) }
+// A null at a time on a link, if its floor is below the null's arrival; answers whether it was.
+pub(crate) fn tell<C: Cargo, L: Links<C>>(links: &mut L, link: usize, time: u32) -> bool
+    requires there { link < (L.Links.meaning links.old).count }
+    requires soon { time ≤ 1000000000 }
+    ensures count { (L.Links.meaning links.new).count ≡ (L.Links.meaning links.old).count }
+    ensures nulls { Nulls time (link ∷ []) (L.Links.meaning links.old) (if result then 1 else 0) (L.Links.meaning links.new) }
 {
-    match links.null(link, time) {
-        Ok(()) => {}
-        Err(_) => unreachable(),
+    if floor_of(links, link) >= time + delay_of(links, link) {
+        return false;
     }
+    links.null(link, time).unwrap();
+    true
 }
 
 // A null at a time on each of these links whose floor is below its arrival; answers how many.
@@ -29,9 +31,7 @@ pub(crate) fn send_nulls<C: Cargo, L: Links<C>>(links: &mut L, outs: &[usize], t
 {
     let mut sent = 0;
     for port in 0..outs.len() {
-        let link = outs[port];
-        if floor_of(links, link) < time + delay_of(links, link) {
-            raise(links, link, time);
+        if tell(links, outs[port], time) {
             sent += 1;
         }
     }

@@ -8,7 +8,6 @@ ghost use Rattle.simulation.specs.Programs.{program_of};
 ghost use Rattle.kernel.specs.OfRun.{view_of, Called};
 
 use super::Run;
-use crate::asking::as_many;
 use crate::clock::process_clock;
 use model::cargo::Cargo;
 use model::links::Links;
@@ -18,8 +17,7 @@ use model::refusal::Refusal;
 
 impl<C: Cargo, P: Process<C>, L: Links<C>> Run<C, P, L> {
     fn clock_now(&self, process: usize) -> u32
-        requires process { process < self.now.routes.plan.processes }
-        requires links { (L.Links.meaning self.now.links).count ≡ length (shape_of self.now.routes.plan).links }
+        requires { process < self.now.routes.plan.processes }
         ensures { result ≡ clock (shape_of self.now.routes.plan) (L.Links.meaning self.now.links) process }
     {
         process_clock(&self.links, self.routes.ins(process), self.routes.horizon())
@@ -93,8 +91,7 @@ impl<C: Cargo, P: Process<C>, L: Links<C>> Run<C, P, L> {
 
     // Whether the clocks of the first so many processes are at the horizon.
     fn all_ended(&self, processes: usize) -> bool
-        requires processes { processes ≤ self.now.routes.plan.processes }
-        requires links { (L.Links.meaning self.now.links).count ≡ length (shape_of self.now.routes.plan).links }
+        requires { processes ≤ self.now.routes.plan.processes }
         ensures { result ≡ each processes (λ p. nat_eq (clock (shape_of self.now.routes.plan) (L.Links.meaning self.now.links) p) self.now.routes.plan.horizon) }
     {
         let horizon = self.routes.horizon();
@@ -105,7 +102,6 @@ impl<C: Cargo, P: Process<C>, L: Links<C>> Run<C, P, L> {
     pub fn done(&self) -> bool
         ensures { Called (program_of C.Cargo P.Process) Call.ask_done (view_of L.Links.meaning self.now) result (view_of L.Links.meaning self.now) }
     {
-        let plan = self.routes.plan();
-        as_many(&self.links, plan.link_count()) && self.all_ended(plan.processes())
+        self.all_ended(self.routes.plan().processes())
     }
 }

@@ -1,5 +1,5 @@
 //! One step of a process.
-ghost use Rattle.std.specs.Prelude.{◌≡◌, ◌<◌, ◌≤◌, length, Some};
+ghost use Rattle.std.specs.Prelude.{◌≡◌, ◌<◌, ◌≤◌, Some};
 ghost use Rattle.model.specs.Lists.{at};
 ghost use Rattle.model.specs.Made.{shape_of};
 ghost use Rattle.simulation.specs.View.{has};
@@ -9,7 +9,6 @@ ghost use Rattle.kernel.specs.OfRun.{view_of};
 ghost use Rattle.kernel.specs.Stages.{Taking, Finds};
 
 use super::Run;
-use crate::asking::as_many;
 use crate::clock::process_clock;
 use crate::nulls::send_nulls;
 use crate::room::lowest_full;
@@ -24,18 +23,16 @@ use model::record::Record;
 use model::refusal::Refusal;
 
 impl<C: Cargo, P: Process<C>, L: Links<C>> Run<C, P, L> {
-    // Whether there is such a process, over as many links as prepared.
+    // Whether there is such a process.
     pub(super) fn has(&self, process: usize) -> bool
         ensures { result ≡ has (view_of L.Links.meaning self.now) process }
     {
-        let plan = self.routes.plan();
-        process < plan.processes() && as_many(&self.links, plan.link_count())
+        process < self.routes.plan().processes()
     }
 
     // The safe event of a process.
     fn safe(&self, process: usize) -> Option<Safe<C>>
-        requires process { process < self.now.routes.plan.processes }
-        requires links { (L.Links.meaning self.now.links).count ≡ length (shape_of self.now.routes.plan).links }
+        requires { process < self.now.routes.plan.processes }
         ensures { Finds (shape_of self.now.routes.plan) (L.Links.meaning self.now.links) process result }
     {
         safe_event(&self.links, self.routes.ins(process), self.routes.horizon())
@@ -44,7 +41,6 @@ impl<C: Cargo, P: Process<C>, L: Links<C>> Run<C, P, L> {
     // Takes the safe event, unless an out-link or the log is full, or the sending is a breach.
     fn take(&mut self, process: usize, state: P, safe: Safe<C>) -> Result<(), Refusal>
         requires process { process < self.old.routes.plan.processes }
-        requires links { (L.Links.meaning self.old.links).count ≡ length (shape_of self.old.routes.plan).links }
         requires state { at self.old.processes.items process ≡ Some state }
         requires safe { Finds (shape_of self.old.routes.plan) (L.Links.meaning self.old.links) process (Some safe) }
         ensures { Taking (program_of C.Cargo P.Process) (view_of L.Links.meaning self.old) process state safe result (view_of L.Links.meaning self.new) }
@@ -83,7 +79,6 @@ impl<C: Cargo, P: Process<C>, L: Links<C>> Run<C, P, L> {
     // Ends a step: nulls by the clock as it is now, and the mark.
     fn close(&mut self, process: usize, lookahead: u32) -> u32
         requires process { process < self.old.routes.plan.processes }
-        requires links { (L.Links.meaning self.old.links).count ≡ length (shape_of self.old.routes.plan).links }
         requires near { lookahead ≤ 10000 }
         ensures closes { Closes (view_of L.Links.meaning self.old) process lookahead (L.Links.meaning self.old.links) result (view_of L.Links.meaning self.new) }
         ensures processes { self.new.processes.items ≡ self.old.processes.items }

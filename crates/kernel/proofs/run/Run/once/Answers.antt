@@ -4,7 +4,7 @@ use Rattle.simulation.specs.Step.{Step, Closes}
 use Rattle.simulation.specs.Programs.{program_of}
 use Rattle.kernel.specs.OfRun.{view_of}
 use Rattle.kernel.specs.Stages.{Took}
-use Rattle.kernel.proofs.Standing.{ready, has_both}
+use Rattle.kernel.proofs.Standing.{ready, has_there}
 use Rattle.kernel.proofs.Assembled.{idle_step, taking_step}
 use Rattle.kernel.proofs.run.Run.once.Goals as goal
 use Rattle.kernel.proofs.run.Run.once.Goals.{in-Some+in_ok-take-in-Some, in-None}
@@ -15,11 +15,10 @@ returns-then-not-has g c = Step.absent (sym c.has.ensures ∙ c.if-not-has.true)
 pub take-requires : goal.take-requires
 take-requires g c =
     let r = c.args.self.now in
-    let both = has_both g.L.Links.meaning r c.args.process (sym c.has.ensures ∙ c.if-not-has.false) in
+    let there = has_there r c.args.process (sym c.has.ensures ∙ c.if-not-has.false) in
     record {
-      process = both.0;
-      links = both.1;
-      state = at_read (vec_items r.processes) c.args.process c.index.result.now (omega (arith, both.0, r.processes.ok.0, r.peopled))
+      process = there;
+      state = at_read (vec_items r.processes) c.args.process c.index.result.now (omega (arith, there, r.processes.ok.0, r.peopled))
           ∙ ap Some (sym c.index.ensures);
       safe = c.in-Some.ensures;
     }
@@ -34,9 +33,9 @@ returns g c =
     let u = c.match-safe.self in
     let n = c.close-nulls.result in
     let W = view_of m c.close-nulls.new.self in
-    let both = has_both m r p (sym c.has.ensures ∙ c.if-not-has.false) in
-    let is_state = at_read (vec_items r.processes) p s (omega (arith, both.0, r.processes.ok.0, r.peopled)) ∙ ap Some (sym c.index.ensures) in
-    let here = ready m r p s both.0 both.1 is_state in
+    let there = has_there r p (sym c.has.ensures ∙ c.if-not-has.false) in
+    let is_state = at_read (vec_items r.processes) p s (omega (arith, there, r.processes.ok.0, r.peopled)) ∙ ap Some (sym c.index.ensures) in
+    let here = ready r p s there is_state in
     let ends = c.close-nulls.ensures in
     elim c.match-safe.branch [
       | in-Some+in_ok-take-in-Some w ↦

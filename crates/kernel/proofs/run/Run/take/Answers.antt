@@ -12,14 +12,14 @@ pub returns-in-Some : goal.returns-in-Some
 returns-in-Some g c =
     let r = c.args.self.now in
     let m = g.L.Links.meaning in
-    Step.held (ready m r c.args.process c.args.state c.requires.process c.requires.links c.requires.state) c.requires.safe.0
+    Step.held (ready r c.args.process c.args.state c.requires.process c.requires.state) c.requires.safe.0
     (sym (c.in-Some.ensures ∙ ap (first_full (m r.links)) c.outs-outs.ensures.value))
 
 pub returns-then-len-self : goal.returns-then-len-self
 returns-then-len-self g c =
     let r = c.args.self.now in
     let m = g.L.Links.meaning in
-    Step.log_full (ready m r c.args.process c.args.state c.requires.process c.requires.links c.requires.state) c.requires.safe.0
+    Step.log_full (ready r c.args.process c.args.state c.requires.process c.requires.state) c.requires.safe.0
     (sym (c.in_default.ensures ∙ ap (first_full (m r.links)) c.outs-outs.ensures.value))
     (omega (arith, c.if-len-self.true, c.len.ensures, r.log.ok.0))
 
@@ -30,10 +30,10 @@ pass_on-requires g c =
     let safe = c.requires.safe.0 in
     let ks = c.outs-outs.result.now in
     record {
-      there = omega (arith, c.requires.links, there (shape_of r.routes.plan) m c.args.process c.args.safe.link safe.leads);
+      there = omega (arith, r.joined, there (shape_of r.routes.plan) m c.args.process c.args.safe.link safe.leads);
       first = safe.first;
       bears = may_go m c.args.process ks (c.args.safe.event.time + c.lookahead.result) c.handle-sending.result c.in-Ok.going
-          (λ a l. omega (arith, c.requires.links, c.outs-outs.ensures.below a l)) (none_full m ks (sym c.in_default.ensures))
+          (λ a l. omega (arith, r.joined, c.outs-outs.ensures.below a l)) (none_full m ks (sym c.in_default.ensures))
           (sym c.judge.ensures ∙ c.in-Ok.is);
     }
 
@@ -42,7 +42,7 @@ returns-in-Err g c =
     let r = c.args.self.now in
     let m = g.L.Links.meaning in
     let G = program_of g.C.Cargo g.P.Process in
-    Step.breached (ready m r c.args.process c.args.state c.requires.process c.requires.links c.requires.state) c.requires.safe.0
+    Step.breached (ready r c.args.process c.args.state c.requires.process c.requires.state) c.requires.safe.0
     (sym (c.in_default.ensures ∙ ap (first_full (m r.links)) c.outs-outs.ensures.value))
     (omega (arith, c.if-len-self.false, c.len.ensures, r.log.ok.0))
     (broke G (shape_of r.routes.plan) (m r.links) c.args.process c.args.state c.args.safe.link c.args.safe.event
