@@ -15,16 +15,6 @@ use std::alloc::Global;
 use std::process::Abort;
 use std::test::Fail;
 
-// Whether a record of a run is this one.
-fn check_record<L: Links<Vehicle>>(
-    rt: &impl Abort,
-    run: &Run<Vehicle, RoadKind, L>,
-    place: usize,
-    record: Record,
-) {
-    assert_eq!(rt; run.record(record.process, place), Ok(record));
-}
-
 fn finishes<S: Links<Vehicle> + Drop>(rt: &impl Abort, heap: Global, store: S) -> Result<(), Fail> {
     let mut run = prepared(rt, heap, LIGHTS, store, 4, 16)?;
     assert_eq!(rt;
@@ -36,50 +26,32 @@ fn finishes<S: Links<Vehicle> + Drop>(rt: &impl Abort, heap: Global, store: S) -
     );
     assert!(rt; run.done(), "done within eight rounds");
     assert_eq!(rt; run.rounds(), 3);
-    check_record(
-        rt,
-        &run,
-        0,
-        Record {
-            process: 0,
-            link: 0,
-            time: 10,
-            code: 65_532,
-        },
-    );
-    check_record(
-        rt,
-        &run,
-        1,
-        Record {
-            process: 0,
-            link: 0,
-            time: 10,
-            code: 65_532,
-        },
-    );
-    check_record(
-        rt,
-        &run,
-        0,
-        Record {
-            process: 1,
-            link: 1,
-            time: 35,
-            code: 65_535,
-        },
-    );
-    check_record(
-        rt,
-        &run,
-        1,
-        Record {
-            process: 1,
-            link: 1,
-            time: 37,
-            code: 65_535,
-        },
-    );
+    let at_signal = Record {
+        process: 0,
+        link: 0,
+        time: 10,
+        code: 65_532,
+    };
+    let at_exit = Record {
+        process: 1,
+        link: 1,
+        time: 35,
+        code: 65_535,
+    };
+    for (place, record) in [
+        (0, at_signal),
+        (1, at_signal),
+        (0, at_exit),
+        (
+            1,
+            Record {
+                time: 37,
+                ..at_exit
+            },
+        ),
+    ] {
+        assert_eq!(rt; run.record(record.process, place), Ok(record), "at {place}");
+    }
     assert_eq!(rt; run.count(0), Ok(2));
     assert_eq!(rt; run.count(1), Ok(2));
     Ok(())

@@ -27,32 +27,19 @@ fn circle(heap: Global) -> Result<Plan, Fail> {
         delay: 0,
     };
     let links = vec![in heap; there, back]?;
-    match Plan::new(100, 2, links) {
-        Some(plan) => Ok(plan),
-        None => Err(Fail::new("the plan is outside its limits")),
-    }
+    Plan::new(100, 2, links).ok_or_else(|| Fail::new("the plan is outside its limits"))
 }
 
 fn exits(heap: Global) -> Result<Vec<RoadKind>, Fail> {
-    match Exit::new(1) {
-        Some(exit) => Ok(vec![in heap; RoadKind::Exit(exit); 2]?),
-        None => Err(Fail::new("an exit is outside its limits")),
-    }
+    let exit = Exit::new(1).ok_or_else(|| Fail::new("an exit is outside its limits"))?;
+    Ok(vec![in heap; RoadKind::Exit(exit); 2]?)
 }
 
 // Null messages alone bring both clocks to the horizon, one second at a time.
 fn goes_on<S: Links<Vehicle> + Drop>(rt: &impl Abort, heap: Global, store: S) -> Result<(), Fail> {
-    let opening: Vec<Opening<Vehicle>> = Vec::new(heap);
-    let Ok(mut run) = Run::prepare(
-        heap,
-        circle(heap)?,
-        exits(heap)?,
-        opening.as_slice(),
-        store,
-        4,
-    ) else {
-        return Err(Fail::new("the run is not prepared"));
-    };
+    let mut run = Run::prepare(heap, circle(heap)?, exits(heap)?, &[], store, 4).map_err(
+        |_| Fail::new("the run is not prepared"),
+    )?;
     assert!(rt; !run.done(), "done at once");
     assert!(rt; run.run(1_000).quiet, "quiet");
     assert!(rt; run.done(), "done");

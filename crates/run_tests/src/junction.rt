@@ -32,10 +32,8 @@ pub type Junction<S> = Run<Vehicle, RoadKind, Stack<S>>;
 
 // Slots for a store, with an event that is never read.
 pub fn slots(heap: Global, count: usize) -> Result<Vec<Event<Vehicle>>, Fail> {
-    match Vehicle::new(0, 0) {
-        Some(cargo) => Ok(vec![in heap; Event { time: 0, cargo }; count]?),
-        None => Err(Fail::new("a vehicle is outside its limits")),
-    }
+    let cargo = Vehicle::new(0, 0).ok_or_else(|| Fail::new("a vehicle is outside its limits"))?;
+    Ok(vec![in heap; Event { time: 0, cargo }; count]?)
 }
 
 fn plan(heap: Global) -> Result<Plan, Fail> {
@@ -50,35 +48,26 @@ fn plan(heap: Global) -> Result<Plan, Fail> {
         delay: 20,
     };
     let links = vec![in heap; outside, to_exit]?;
-    match Plan::new(100, 2, links) {
-        Some(plan) => Ok(plan),
-        None => Err(Fail::new("the plan is outside its limits")),
-    }
+    Plan::new(100, 2, links).ok_or_else(|| Fail::new("the plan is outside its limits"))
 }
 
 fn processes(heap: Global, lights: Settings) -> Result<Vec<RoadKind>, Fail> {
-    let Some(signal) = Signal::new(lights) else {
-        return Err(Fail::new("a signal is outside its limits"));
-    };
-    let Some(exit) = Exit::new(1) else {
-        return Err(Fail::new("an exit is outside its limits"));
-    };
+    let signal = Signal::new(lights).ok_or_else(|| Fail::new("a signal is outside its limits"))?;
+    let exit = Exit::new(1).ok_or_else(|| Fail::new("an exit is outside its limits"))?;
     Ok(vec![in heap; RoadKind::Node(signal), RoadKind::Exit(exit)]?)
 }
 
 // Two vehicles that come together.
 fn opening(heap: Global) -> Result<Vec<Opening<Vehicle>>, Fail> {
-    match Vehicle::new(0, 65_532) {
-        Some(cargo) => {
-            let event = Opening {
-                link: 0,
-                time: 10,
-                cargo,
-            };
-            Ok(vec![in heap; event, event]?)
-        }
-        None => Err(Fail::new("a vehicle is outside its limits")),
-    }
+    let cargo = Vehicle::new(0, 65_532).ok_or_else(|| Fail::new(
+        "a vehicle is outside its limits",
+    ))?;
+    let event = Opening {
+        link: 0,
+        time: 10,
+        cargo,
+    };
+    Ok(vec![in heap; event; 2]?)
 }
 
 // A run of the junction over a store of two links, of which the one to the exit may hold so many events.
@@ -95,15 +84,13 @@ pub fn prepared<S: Links<Vehicle> + Drop>(
     let mut links = Delay::new(below);
     assert!(rt; links.set(1, 20).is_ok(), "delay");
     let events = opening(heap)?;
-    match Run::prepare(
+    Run::prepare(
         heap,
         plan(heap)?,
         processes(heap, lights)?,
         events.as_slice(),
         links,
         size,
-    ) {
-        Ok(run) => Ok(run),
-        Err(_) => Err(Fail::new("the run is not prepared")),
-    }
+    )
+    .map_err(|_| Fail::new("the run is not prepared"))
 }

@@ -15,26 +15,15 @@ use std::alloc::Global;
 use std::process::Abort;
 use std::test::Fail;
 
-// Why a step of a process is refused.
-fn refusal<L: Links<Vehicle>>(
-    run: &mut Run<Vehicle, RoadKind, L>,
-    process: usize,
-) -> Option<Refusal> {
-    match run.step(process) {
-        Ok(_) => None,
-        Err(refusal) => Some(refusal),
-    }
-}
-
 // The link to the exit has one place: the second vehicle waits until the exit has taken the first.
 fn held<S: Links<Vehicle> + Drop>(rt: &impl Abort, heap: Global, store: S) -> Result<(), Fail> {
     let mut run = prepared(rt, heap, LIGHTS, store, 1, 16)?;
-    assert_eq!(rt; refusal(&mut run, 0), None);
-    assert_eq!(rt; refusal(&mut run, 0), Some(Refusal::Held(1)));
+    assert_eq!(rt; run.step(0).err(), None);
+    assert_eq!(rt; run.step(0).err(), Some(Refusal::Held(1)));
     assert_eq!(rt; run.count(0), Ok(1));
-    assert_eq!(rt; refusal(&mut run, 1), None);
+    assert_eq!(rt; run.step(1).err(), None);
     assert_eq!(rt; run.count(1), Ok(1));
-    assert_eq!(rt; refusal(&mut run, 0), None);
+    assert_eq!(rt; run.step(0).err(), None);
     assert_eq!(rt; run.count(0), Ok(2));
     Ok(())
 }
@@ -42,8 +31,8 @@ fn held<S: Links<Vehicle> + Drop>(rt: &impl Abort, heap: Global, store: S) -> Re
 // The log has room for one record.
 fn log_full<S: Links<Vehicle> + Drop>(rt: &impl Abort, heap: Global, store: S) -> Result<(), Fail> {
     let mut run = prepared(rt, heap, LIGHTS, store, 4, 1)?;
-    assert_eq!(rt; refusal(&mut run, 0), None);
-    assert_eq!(rt; refusal(&mut run, 0), Some(Refusal::LogFull));
+    assert_eq!(rt; run.step(0).err(), None);
+    assert_eq!(rt; run.step(0).err(), Some(Refusal::LogFull));
     assert_eq!(rt; run.count(0), Ok(1));
     assert_eq!(rt; run.clock(0), Ok(10));
     Ok(())
@@ -68,20 +57,16 @@ fn breached<S: Links<Vehicle> + Drop>(rt: &impl Abort, heap: Global, store: S) -
         time: 15,
         cause: Cause::Early,
     };
-    assert_eq!(rt; refusal(&mut run, 0), Some(Refusal::Breached(breach)));
+    assert_eq!(rt; run.step(0).err(), Some(Refusal::Breached(breach)));
     assert_eq!(rt; run.count(0), Ok(0));
-    assert_eq!(rt;
-        refusal(&mut run, 0),
-        Some(Refusal::Breached(breach)),
-        "again"
-    );
+    assert_eq!(rt; run.step(0).err(), Some(Refusal::Breached(breach)), "again");
     Ok(())
 }
 
 // There are processes 0 and 1 only, and no pass is made unless it is asked for.
 fn absent<S: Links<Vehicle> + Drop>(rt: &impl Abort, heap: Global, store: S) -> Result<(), Fail> {
     let mut run = prepared(rt, heap, LIGHTS, store, 4, 16)?;
-    assert_eq!(rt; refusal(&mut run, 2), Some(Refusal::NoSuch));
+    assert_eq!(rt; run.step(2).err(), Some(Refusal::NoSuch));
     assert_eq!(rt; run.clock(2), Err(Refusal::NoSuch));
     assert_eq!(rt; run.count(2), Err(Refusal::NoSuch));
     assert_eq!(rt;
