@@ -12,8 +12,9 @@ use crate::link::Link;
 fn between(link: &Link, processes: usize) -> bool
     ensures { result ≡ joins processes (Some link.now) }
 {
-    let from = link.from.is_none_or(|process| process < processes);
-    from && link.to < processes && link.delay <= 10_000
+    link.from.is_none_or(|process| process < processes)
+        && link.to < processes
+        && link.delay <= 10_000
 }
 
 // Whether all links do.
