@@ -5,3 +5,4 @@ pub mod bytes;
 pub mod fields;
 pub mod lines;
 pub mod numbers;
+pub mod slate;

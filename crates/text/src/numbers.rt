@@ -59,7 +59,7 @@ pub fn append_number(out: &mut Vec<u8>, n: u64) -> Result<(), AllocError>
 }
 
 // The digits of n: those of its tenth part, unless that is 0, and then its last.
-fn digits_of(n: u64) -> ArrayVec<u8, MOST_DIGITS>
+pub(crate) fn digits_of(n: u64) -> ArrayVec<u8, MOST_DIGITS>
     ensures { result.items ≡ digits n }
 {
     let tenth = n / 10;

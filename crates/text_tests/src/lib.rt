@@ -8,6 +8,7 @@ mod tests {
     use text::fields::{Malformed, cut_fields};
     use text::lines::{lines, split_line};
     use text::numbers::{append_number, put_number, read_number, spells};
+    use text::slate::Slate;
 
     #[test]
     fn both_line_ends(rt: HostRuntime) -> Result<(), Fail> {
@@ -113,5 +114,18 @@ mod tests {
         append_number(&mut list, 18446744073709551615)?;
         assert!(rt; same(list.as_slice(), b"018446744073709551615"));
         Ok(())
+    }
+
+    #[test]
+    fn pieces_on_a_slate(rt: HostRuntime) {
+        let mut buf = *b"........";
+        let mut slate = Slate {
+            buf: &mut buf,
+            end: 1,
+        };
+        slate.put_number(409);
+        slate.put_bytes(b"\r\n");
+        assert_eq!(rt; slate.end, 6);
+        assert!(rt; same(&buf, b".409\r\n.."));
     }
 }
