@@ -59,18 +59,15 @@ read_more rest (quoted {field} h) =
     ap (λ x. cut_line (34 ∷ x)) (append_assoc field (34 ∷ []) (44 ∷ rest)) ∙ read_quoted field (44 ∷ rest) h
 
 -- a cut that begins with a field is not broken at the first
-no_whole : {fields : List (List ℕ)} → broken [] ≡ whole fields → ⊥
-no_whole e = let z : ◌≡◌ {A = ℕ} 0 1 = cc in omega arith
-
 no_onto : (field : List ℕ) (k : Cut) → broken [] ≡ onto field k → ⊥
-no_onto field (whole fields) e = no_whole e
-no_onto field (broken fields) e = let z : ◌≡◌ {A = ℕ} 0 1 = cc in omega arith
+no_onto field (whole fields) e = cc
+no_onto field (broken fields) e = cc
 
 -- so where it is, no field stands there
 faulty : (line : List ℕ) → cut_line line ≡ broken [] → Parted line (broken [])
 faulty line e =
     fault (λ field text rest w. (
-      (λ p. no_whole (sym e ∙ ap cut_line p ∙ read_last w)),
+      (λ p. let q = sym e ∙ ap cut_line p ∙ read_last w in cc),
       λ p. no_onto field (cut_line rest) (sym e ∙ ap cut_line p ∙ read_more rest w),
     ))
 

@@ -1,6 +1,7 @@
 -- What one turn of the field reader keeps.
-use Rattle.std.proofs.Common.{◌≡◌, ℕ, ◌+◌, ◌-◌, ◌<◌, ◌≤◌, Bool, true, false, cond, eqb, List, [], ◌∷◌, ◌++◌, length, get_or, take, drop, set, Ok, Err, sym, refl, ap, ◌∙◌, append_assoc, arith}
+use Rattle.std.proofs.Common.{◌≡◌, ℕ, ◌+◌, ◌-◌, ◌<◌, ◌≤◌, List, [], ◌∷◌, ◌++◌, length, get_or, take, drop, set, Ok, Err, sym, refl, ap, ◌∙◌, append_assoc, arith}
 use Rattle.std.specs.List.{between}
+use Rattle.std.proofs.lemmas.Bool.Decides.{nat_tests}
 use Rattle.std.proofs.lemmas.List.Edits.{between_more}
 use Rattle.std.proofs.lemmas.List.{append-nil, at_drop_more, at_drop_all, length_push}
 use Rattle.text.specs.Fields.{Step, opens, keeps, closes, ends, breaks, step}
@@ -61,15 +62,11 @@ tight Quoted i = refl
 tight AfterQuote i = tt
 
 -- behind the closing quote no byte is kept
-none_kept : (v : Bool) (t : State) → cond v ends breaks ≡ keeps t → ⊥
-none_kept true t e = let z : ◌≡◌ {A = ℕ} 0 1 = cc in omega arith
-none_kept false t e = let z : ◌≡◌ {A = ℕ} 0 1 = cc in omega arith
-
-kept_end : (s t : State) (b end i : ℕ) → step s b ≡ keeps t → Tight s end i → end ≡ i
+kept_end : (s t : State) (b end i : ℕ) → keeps t ≡ step s b → Tight s end i → end ≡ i
 kept_end Start t b end i e h = h
 kept_end Plain t b end i e h = h
 kept_end Quoted t b end i e h = h
-kept_end AfterQuote t b end i e h = absurd (none_kept (eqb b 44) t e)
+kept_end AfterQuote t b end i e h = absurd (grind (arith, nat_tests))
 
 -- the fields done and the field so far, from start to end, lead on to the line's fields
 pub record Sofar (line : List ℕ) (s : State) (done : List (List ℕ)) (start end i : ℕ) : Type 0 where
@@ -97,7 +94,7 @@ module _ {line : List ℕ} {s : State} {done : List (List ℕ)} {start end i : �
 
   pub kept : (t : State) → keeps t ≡ step s (get_or line i 0) → Sofar line t done start (i + 1) (i + 1)
   kept t e =
-      let at : end ≡ i = kept_end s t _ end i (sym e) h.close in
+      let at : end ≡ i = kept_end s t _ end i e h.close in
       let from : start ≤ i = omega (arith, h.order) in
       let field : between start (i + 1) line ≡ between start end line ++ get_or line i 0 ∷ [] =
       between_more line start i 0 from lt ∙ ap (λ k. between start k line ++ get_or line i 0 ∷ []) (sym at) in

@@ -72,10 +72,10 @@ unpadded_from (d ∷ e ∷ ds) some z =
     let t : eqb d 48 ≡ false = ne_eqb d 48 (λ p. omega (arith, z p)) in ap not t
 
 unpadded_parts : (ds : List ℕ) → unpadded ds ≡ true → (0 < length ds) × (get_or ds 0 0 ≡ 48 → length ds ≡ 1)
-unpadded_parts [] u = let z : ◌≡◌ {A = ℕ} 0 1 = cc in absurd (omega arith)
+unpadded_parts [] u = absurd (cc)
 unpadded_parts (d ∷ []) u = (omega arith, λ z. refl)
 unpadded_parts (d ∷ e ∷ ds) u =
-    (omega arith, λ z. let z' : ◌≡◌ {A = ℕ} 0 1 = cc (eq-eqb d 48 z, not-true _ u) in absurd (omega arith))
+    (omega arith, λ z. absurd (cc (eq-eqb d 48 z, not-true _ u)))
 
 module _ (n : ℕ) (l : n < 2 ^ 64) where
   digits_some : 0 < length (digits n)
@@ -102,7 +102,7 @@ read_digits n l =
 
 some_parts : (t : Bool) (v n : ℕ) → cond t (Some v) None ≡ Some n → (t ≡ true) × (v ≡ n)
 some_parts true v n e = (refl, cc)
-some_parts false v n e = let z : ◌≡◌ {A = ℕ} 0 1 = cc in absurd (omega arith)
+some_parts false v n e = absurd (cc)
 
 only_digits : (bs : List ℕ) (n : ℕ) → number_of bs ≡ Some n → bs ≡ digits n
 unfolding number_of
@@ -126,8 +126,8 @@ pub spelled : (bs : List ℕ) (n : ℕ) → n < 2 ^ 32
     → r ≡ bytes_eq bs (digits n)
 spelled bs n l None r e h =
     same_by bs (digits n) r (
-      (λ t. let z : ◌≡◌ {A = ℕ} 0 1 = cc in absurd (omega arith)),
-      λ d. let z : ◌≡◌ {A = ℕ} 0 1 = cc (ap number_of d, read_digits n l) in absurd (omega arith),
+      (λ t. absurd (cc)),
+      λ d. absurd (cc (ap number_of d, read_digits n l)),
     )
 spelled bs n l (Some m) r e h =
     same_by bs (digits n) r (
