@@ -78,6 +78,10 @@ Begun Plain field text = AllByRecursion Bare field × (text ≡ field)
 Begun Quoted field text = AllByRecursion Quotable field × (text ≡ 34 ∷ field)
 Begun AfterQuote field text = AllByRecursion Quotable field × (text ≡ 34 ∷ field ++ 34 ∷ [])
 
+-- a byte is kept in one state alone
+kept_in : (u t : State) (field text : List ℕ) → keeps t ≡ keeps u → Begun u field text → Begun t field text
+kept_in u t field text e g = let same : u ≡ t = cc in subst (λ s. Begun s field text) same g
+
 module _ (field text : List ℕ) (b : ℕ) where
   opened : (s : State) → Begun s field text → opens ≡ step s b → Begun Quoted [] (text ++ b ∷ [])
   opened Start g e = let p : b ≡ 34 = grind (arith, nat_tests) in (tt, (λ i. g.1 i ++ p i ∷ []))
@@ -87,24 +91,14 @@ module _ (field text : List ℕ) (b : ℕ) where
 
   kept : (s t : State) → Begun s field text → keeps t ≡ step s b → Begun t (field ++ b ∷ []) (text ++ b ∷ [])
   kept Start t g e =
-      let p : keeps t ≡ keeps Plain = grind (arith, nat_tests) in
       let q : Bare b = grind (arith, nat_tests) in
-      let same : Plain ≡ t = cc in
-      let alone : b ∷ [] ≡ field ++ b ∷ [] = ap (λ f. f ++ b ∷ []) (sym g.0) in
-      subst (λ u. Begun u (field ++ b ∷ []) (text ++ b ∷ [])) same
-      (subst (AllByRecursion Bare) alone (q, tt), ap (λ x. x ++ b ∷ []) (g.1 ∙ sym g.0))
+      kept_in Plain t _ _ (grind (arith, nat_tests)) (rw (g.0, g.1) ((q, tt), refl))
   kept Plain t g e =
-      let p : keeps t ≡ keeps Plain = grind (arith, nat_tests) in
       let q : Bare b = grind (arith, nat_tests) in
-      let same : Plain ≡ t = cc in
-      subst (λ u. Begun u (field ++ b ∷ []) (text ++ b ∷ [])) same
-      (All-push Bare field b g.0 q, ap (λ x. x ++ b ∷ []) g.1)
+      kept_in Plain t _ _ (grind (arith, nat_tests)) (All-push Bare field b g.0 q, ap (λ x. x ++ b ∷ []) g.1)
   kept Quoted t g e =
-      let p : keeps t ≡ keeps Quoted = grind (arith, nat_tests) in
       let q : Quotable b = grind (arith, nat_tests) in
-      let same : Quoted ≡ t = cc in
-      subst (λ u. Begun u (field ++ b ∷ []) (text ++ b ∷ [])) same
-      (All-push Quotable field b g.0 q, ap (λ x. x ++ b ∷ []) g.1)
+      kept_in Quoted t _ _ (grind (arith, nat_tests)) (All-push Quotable field b g.0 q, ap (λ x. x ++ b ∷ []) g.1)
   kept AfterQuote t g e = absurd (grind (arith, nat_tests))
 
   closed : (s : State) → Begun s field text → closes ≡ step s b → Begun AfterQuote field (text ++ b ∷ [])
@@ -114,10 +108,10 @@ module _ (field text : List ℕ) (b : ℕ) where
   closed AfterQuote g e = absurd (grind (arith, nat_tests))
 
 ended : (s : State) (b : ℕ) → ends ≡ step s b → (b ≡ 44) × (s ≡ Quoted → ⊥)
-ended Start b e = (grind (arith, nat_tests), λ q. grind arith)
-ended Plain b e = (grind (arith, nat_tests), λ q. grind arith)
+ended Start b e = grind (arith, nat_tests)
+ended Plain b e = grind (arith, nat_tests)
 ended Quoted b e = absurd (grind (arith, nat_tests))
-ended AfterQuote b e = (grind (arith, nat_tests), λ q. grind arith)
+ended AfterQuote b e = grind (arith, nat_tests)
 
 -- a field is written, unless a quote is open
 written : (s : State) (field text : List ℕ) → Begun s field text → (s ≡ Quoted → ⊥) → Written field text
@@ -136,10 +130,10 @@ Parts bs =
     (s : State) (field text : List ℕ) → Begun s field text → Reached s field text → Parted (text ++ bs) (cut s field bs)
 
 no_more : Parts []
-no_more Start field text g reached = rw append-nil (last (written Start field text g (λ q. grind arith)))
-no_more Plain field text g reached = rw append-nil (last (written Plain field text g (λ q. grind arith)))
+no_more Start field text g reached = rw append-nil (last (written Start field text g (λ q. cc)))
+no_more Plain field text g reached = rw append-nil (last (written Plain field text g (λ q. cc)))
 no_more Quoted field text g reached = faulty (text ++ []) (reached [])
-no_more AfterQuote field text g reached = rw append-nil (last (written AfterQuote field text g (λ q. grind arith)))
+no_more AfterQuote field text g reached = rw append-nil (last (written AfterQuote field text g (λ q. cc)))
 
 module _ (b : ℕ) (bs : List ℕ) (parts : Parts bs) (s : State) (field text : List ℕ) (g : Begun s field text) (reached : Reached s field text) where
   goes_on : (x : Step) → x ≡ step s b → (rest : List ℕ) → cut_line ((text ++ b ∷ []) ++ rest) ≡ onward x field b rest
