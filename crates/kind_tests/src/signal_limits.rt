@@ -33,53 +33,48 @@ fn the_limits_are_within(rt: HostRuntime) -> Result<(), Fail> {
 }
 
 #[test]
-fn lookahead(rt: HostRuntime) {
-    let mut settings = LEAST;
-    settings.lookahead = 0;
-    assert!(rt; Signal::new(settings).is_none());
-    settings.lookahead = 10_001;
-    assert!(rt; Signal::new(settings).is_none());
-}
-
-#[test]
-fn cycle(rt: HostRuntime) {
-    let mut settings = LEAST;
-    settings.cycle = 0;
-    assert!(rt; Signal::new(settings).is_none());
-    settings.cycle = 10_001;
-    assert!(rt; Signal::new(settings).is_none());
-}
-
-#[test]
-fn green(rt: HostRuntime) {
-    let mut settings = MOST;
-    settings.green = 0;
-    assert!(rt; Signal::new(settings).is_none());
-    settings.green = 10_001;
-    assert!(rt; Signal::new(settings).is_none());
-}
-
-#[test]
-fn offset(rt: HostRuntime) {
-    let mut settings = MOST;
-    settings.offset = 10_000;
-    assert!(rt; Signal::new(settings).is_none());
-}
-
-#[test]
-fn headway(rt: HostRuntime) {
-    let mut settings = LEAST;
-    settings.headway = 0;
-    assert!(rt; Signal::new(settings).is_none());
-    settings.headway = 10_001;
-    assert!(rt; Signal::new(settings).is_none());
-}
-
-#[test]
-fn crossing(rt: HostRuntime) {
-    let mut settings = LEAST;
-    settings.crossing = 0;
-    assert!(rt; Signal::new(settings).is_none());
-    settings.crossing = 10_001;
-    assert!(rt; Signal::new(settings).is_none());
+fn past_the_limits(rt: HostRuntime) {
+    let past = [
+        Settings {
+            lookahead: 0,
+            ..LEAST
+        },
+        Settings {
+            lookahead: 10_001,
+            ..LEAST
+        },
+        Settings { cycle: 0, ..LEAST },
+        Settings {
+            cycle: 10_001,
+            ..LEAST
+        },
+        Settings { green: 0, ..MOST },
+        Settings {
+            green: 10_001,
+            ..MOST
+        },
+        Settings {
+            offset: 10_000,
+            ..MOST
+        },
+        Settings {
+            headway: 0,
+            ..LEAST
+        },
+        Settings {
+            headway: 10_001,
+            ..LEAST
+        },
+        Settings {
+            crossing: 0,
+            ..LEAST
+        },
+        Settings {
+            crossing: 10_001,
+            ..LEAST
+        },
+    ];
+    for settings in past {
+        assert!(rt; Signal::new(settings).is_none(), "{settings:?}");
+    }
 }
