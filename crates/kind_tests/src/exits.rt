@@ -1,7 +1,7 @@
 //! Exits: their limits, and that they send nothing.
+use crate::kinds::sends_nothing;
 use crate::missing::Missing;
 use exit::Exit;
-use model::process::Process;
 use packet::frame::Frame;
 use packet::kind::PacketKind;
 use road::kind::RoadKind;
@@ -22,10 +22,7 @@ fn limits(rt: HostRuntime) -> Result<(), Fail> {
 fn no_vehicle_is_sent(rt: HostRuntime) -> Result<(), Fail> {
     let vehicle = Vehicle::new(0, 0).ok_or(Missing::WithinLimits)?;
     let exit = Exit::new(7).ok_or(Missing::WithinLimits)?;
-    let mut kind = RoadKind::Exit(exit);
-    assert_eq!(rt; kind.lookahead(), 7);
-    assert!(rt; kind.handle(0, 3, vehicle).is_none());
-    assert_eq!(rt; kind, RoadKind::Exit(exit));
+    sends_nothing(&rt, RoadKind::Exit(exit), vehicle);
     Ok(())
 }
 
@@ -33,9 +30,6 @@ fn no_vehicle_is_sent(rt: HostRuntime) -> Result<(), Fail> {
 fn no_frame_is_sent(rt: HostRuntime) -> Result<(), Fail> {
     let frame = Frame::new(0, 1).ok_or(Missing::WithinLimits)?;
     let exit = Exit::new(7).ok_or(Missing::WithinLimits)?;
-    let mut kind = PacketKind::Exit(exit);
-    assert_eq!(rt; kind.lookahead(), 7);
-    assert!(rt; kind.handle(0, 3, frame).is_none());
-    assert_eq!(rt; kind, PacketKind::Exit(exit));
+    sends_nothing(&rt, PacketKind::Exit(exit), frame);
     Ok(())
 }

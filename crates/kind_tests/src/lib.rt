@@ -6,6 +6,8 @@ mod exits;
 #[cfg(test)]
 mod frames;
 #[cfg(test)]
+mod kinds;
+#[cfg(test)]
 mod missing;
 #[cfg(test)]
 mod signal_limits;

@@ -1,7 +1,7 @@
 //! Signals: when vehicles start, queue and leave.
+use crate::kinds::stays_a_node;
 use crate::missing::Missing;
 use model::process::Process;
-use road::kind::RoadKind;
 use road::signal::Signal;
 use road::signal::settings::Settings;
 use road::vehicle::Vehicle;
@@ -90,12 +90,7 @@ fn sums_stop(rt: HostRuntime) -> Result<(), Fail> {
 #[test]
 fn kind_is_kept(rt: HostRuntime) -> Result<(), Fail> {
     let vehicle = Vehicle::new(0, 65_535).ok_or(Missing::WithinLimits)?;
-    let mut signal = Signal::new(LIGHTS).ok_or(Missing::WithinLimits)?;
-    let mut kind = RoadKind::Node(signal);
-    assert_eq!(rt; kind.lookahead(), 5);
-    assert!(rt; kind.handle(0, 10, vehicle).is_none());
-    assert_ne!(rt; kind, RoadKind::Node(signal), "free has changed");
-    assert!(rt; signal.handle(0, 10, vehicle).is_none());
-    assert_eq!(rt; kind, RoadKind::Node(signal));
+    let signal = Signal::new(LIGHTS).ok_or(Missing::WithinLimits)?;
+    stays_a_node(&rt, signal, 10, vehicle, false);
     Ok(())
 }

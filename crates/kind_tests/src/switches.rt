@@ -1,8 +1,8 @@
 //! Switches: their limits, and when frames are served.
+use crate::kinds::stays_a_node;
 use crate::missing::Missing;
 use model::process::Process;
 use packet::frame::Frame;
-use packet::kind::PacketKind;
 use packet::switch::Switch;
 use std::test::Fail;
 
@@ -64,12 +64,7 @@ fn sums_stop(rt: HostRuntime) -> Result<(), Fail> {
 #[test]
 fn kind_is_kept(rt: HostRuntime) -> Result<(), Fail> {
     let frame = Frame::new(0, 1).ok_or(Missing::WithinLimits)?;
-    let mut switch = Switch::new(5, 10).ok_or(Missing::WithinLimits)?;
-    let mut kind = PacketKind::Node(switch);
-    assert_eq!(rt; kind.lookahead(), 5);
-    assert!(rt; kind.handle(0, 3, frame).is_some());
-    assert_ne!(rt; kind, PacketKind::Node(switch), "free has changed");
-    assert!(rt; switch.handle(0, 3, frame).is_some());
-    assert_eq!(rt; kind, PacketKind::Node(switch));
+    let switch = Switch::new(5, 10).ok_or(Missing::WithinLimits)?;
+    stays_a_node(&rt, switch, 3, frame, true);
     Ok(())
 }
