@@ -21,89 +21,56 @@ pub enum Call {
 }
 
 #[derive(Clone, Copy, PartialEq, Debug)]
-pub enum Answer {
+pub enum Reply {
     Done,
     // An event that arrives at a time with the parcel of a number.
     Arrives(u32, u32),
     Nothing,
     Is(u32),
-    Refused(LinkFault),
-    // Refused for want of a place in the store, whatever layers lie above it.
-    StoreFull,
 }
 
-fn arrival(event: Event<Parcel>) -> Answer {
-    Answer::Arrives(event.time, event.cargo.code())
-}
+pub type Answer = Result<Reply, LinkFault>;
 
-fn of_change(answer: Result<(), LinkFault>) -> Answer {
-    match answer {
-        Ok(()) => Answer::Done,
-        Err(fault) => Answer::Refused(fault),
+impl From<Event<Parcel>> for Reply {
+    fn from(event: Event<Parcel>) -> Self {
+        Reply::Arrives(event.time, event.cargo.code())
     }
 }
 
-fn of_number(answer: Result<u32, LinkFault>) -> Answer {
-    match answer {
-        Ok(number) => Answer::Is(number),
-        Err(fault) => Answer::Refused(fault),
-    }
-}
-
-fn of_first(answer: Result<Option<Event<Parcel>>, LinkFault>) -> Answer {
-    match answer {
-        Ok(first) => match first {
-            Some(event) => arrival(event),
-            None => Answer::Nothing,
-        },
-        Err(fault) => Answer::Refused(fault),
-    }
-}
-
-fn of_take(answer: Result<Event<Parcel>, LinkFault>) -> Answer {
-    match answer {
-        Ok(event) => arrival(event),
-        Err(fault) => Answer::Refused(fault),
+// An event to begin a slot with, which is never read.
+pub fn blank() -> Event<Parcel> {
+    Event {
+        time: 0,
+        cargo: Parcel::new(0),
     }
 }
 
 fn ask<L: Links<Parcel>>(links: &mut L, call: Call) -> Answer {
     match call {
-        Call::Put(link, time, number) => of_change(links.put(link, time, Parcel::new(number))),
-        Call::Null(link, time) => of_change(links.null(link, time)),
-        Call::First(link) => of_first(links.first(link)),
-        Call::Take(link) => of_take(links.take(link)),
-        Call::Floor(link) => of_number(links.floor(link)),
-        Call::Delay(link) => of_number(links.delay(link)),
-        Call::Waiting(link) => of_number(links.waiting(link)),
-        Call::Free(link) => of_number(links.free(link)),
-        Call::Capacity(link) => of_number(links.capacity(link)),
+        Call::Put(link, time, number) => links
+            .put(link, time, Parcel::new(number))
+            .map(|()| Reply::Done),
+        Call::Null(link, time) => links.null(link, time).map(|()| Reply::Done),
+        Call::First(link) => links
+            .first(link)
+            .map(|first| first.map_or(Reply::Nothing, Reply::from)),
+        Call::Take(link) => links.take(link).map(Reply::from),
+        Call::Floor(link) => links.floor(link).map(Reply::Is),
+        Call::Delay(link) => links.delay(link).map(Reply::Is),
+        Call::Waiting(link) => links.waiting(link).map(Reply::Is),
+        Call::Free(link) => links.free(link).map(Reply::Is),
+        Call::Capacity(link) => links.capacity(link).map(Reply::Is),
     }
 }
 
-// Makes one call of links whose store is the layer of the given number, and compares the answer.
-pub fn expect<L: Links<Parcel>>(
-    rt: &impl Abort,
-    links: &mut L,
-    store: u32,
-    call: Call,
-    answer: Answer,
-) {
-    let expected = match answer {
-        Answer::StoreFull => Answer::Refused(LinkFault::Full(store)),
-        other => other,
-    };
-    assert_eq!(rt; ask(links, call), expected);
+// Makes one call, and compares the answer.
+pub fn expect<L: Links<Parcel>>(rt: &impl Abort, links: &mut L, call: Call, answer: Answer) {
+    assert_eq!(rt; ask(links, call), answer);
 }
 
 // Makes the calls in their order, and compares each answer.
-pub fn follow<L: Links<Parcel>>(
-    rt: &impl Abort,
-    links: &mut L,
-    store: u32,
-    script: &[(Call, Answer)],
-) {
+pub fn follow<L: Links<Parcel>>(rt: &impl Abort, links: &mut L, script: &[(Call, Answer)]) {
     for (call, answer) in script {
-        expect(rt, links, store, *call, *answer);
+        expect(rt, links, *call, *answer);
     }
 }
