@@ -7,3 +7,4 @@ pub mod Stages
 pub mod Preparing
 pub mod Deciding
 pub mod Breaching
+pub mod Wiring

@@ -25,11 +25,7 @@ impl Routes {
     pub(crate) fn into_plan(self) -> Plan
         ensures { result ≡ self.plan }
     {
-        let Routes {
-            plan,
-            ins: _,
-            outs: _,
-        } = self;
+        let Routes { plan, ports: _ } = self;
         plan
     }
 
@@ -40,7 +36,7 @@ impl Routes {
         ensures below { Below (length (shape_of self.now.plan).links) result.now }
         ensures rising { Rising result.now }
     {
-        self.ins[process].as_slice()
+        self.ports[process].ins.as_slice()
     }
 
     // The out-links of a process.
@@ -50,6 +46,6 @@ impl Routes {
         ensures below { Below (length (shape_of self.now.plan).links) result.now }
         ensures few { length result.now ≤ 128 }
     {
-        self.outs[process].as_slice()
+        self.ports[process].outs.as_slice()
     }
 }

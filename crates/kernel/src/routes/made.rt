@@ -1,32 +1,30 @@
-ghost use Rattle.std.specs.Prelude.{◌≡◌, map, IfOk, vec_items, MatchResult};
-ghost use Rattle.std.specs.List.{range_with_len};
+ghost use Rattle.std.specs.Prelude.{◌≡◌, IfOk, MatchResult};
 ghost use Rattle.model.specs.Shape.{in_links, out_links};
 ghost use Rattle.model.specs.Made.{shape_of};
+ghost use Rattle.kernel.specs.Wiring.{Wired};
 
-use super::Routes;
+use super::{Ports, Routes};
 use model::plan::Plan;
 use std::alloc::{AllocError, Global};
 
-// The in-links of every process.
-fn all_in_links(heap: Global, plan: &Plan) -> Result<Vec<Vec<usize>>, AllocError>
-    ensures { IfOk result (λ v. map vec_items v.items ≡ map (in_links (shape_of plan.now)) (range_with_len 0 (shape_of plan.now).processes)) }
+// The ports of a process.
+fn ports_of(heap: Global, plan: &Plan, process: usize) -> Result<Ports, AllocError>
+    ensures ins { IfOk result (λ p. p.ins.items ≡ in_links (shape_of plan.now) process) }
+    ensures outs { IfOk result (λ p. p.outs.items ≡ out_links (shape_of plan.now) process) }
 {
-    let mut all = Vec::new(heap);
-    for process in 0..plan.processes() {
-        all.push(plan.in_links(heap, process)?)?;
-    }
-    Ok(all)
+    Ok(Ports {
+        ins: plan.in_links(heap, process)?,
+        outs: plan.out_links(heap, process)?,
+    })
 }
 
-// The out-links of every process.
-fn all_out_links(heap: Global, plan: &Plan) -> Result<Vec<Vec<usize>>, AllocError>
-    ensures { IfOk result (λ v. map vec_items v.items ≡ map (out_links (shape_of plan.now)) (range_with_len 0 (shape_of plan.now).processes)) }
+// The ports of every process.
+fn all_ports(heap: Global, plan: &Plan) -> Result<Vec<Ports>, AllocError>
+    ensures { IfOk result (λ all. Wired plan.now all.items) }
 {
-    let mut all = Vec::new(heap);
-    for process in 0..plan.processes() {
-        all.push(plan.out_links(heap, process)?)?;
-    }
-    Ok(all)
+    (0..plan.processes())
+        .map(|process| ports_of(heap, plan, process))
+        .try_collect(heap)
 }
 
 impl Routes {
@@ -34,12 +32,9 @@ impl Routes {
     pub(crate) fn new(heap: Global, plan: Plan) -> Result<Routes, Plan>
         ensures { MatchResult result (λ s. s.plan ≡ plan) (λ p. p ≡ plan) }
     {
-        let Ok(ins) = all_in_links(heap, &plan) else {
-            return Err(plan);
-        };
-        let Ok(outs) = all_out_links(heap, &plan) else {
-            return Err(plan);
-        };
-        Ok(Routes { plan, ins, outs })
+        match all_ports(heap, &plan) {
+            Ok(ports) => Ok(Routes { plan, ports }),
+            Err(_) => Err(plan),
+        }
     }
 }

@@ -1,30 +1,21 @@
-use Rattle.std.proofs.Common.{ℕ, Bool, length, vec_items, sym, ap, ◌∙◌, subst, arith}
+use Rattle.std.proofs.Common.{rules, ◌≡◌, length, sym, subst, ap, arith}
 use Rattle.model.specs.Lists.{is}
 use Rattle.model.specs.Shape.{out_links, source}
 use Rattle.model.specs.Made.{shape_of}
-use Rattle.kernel.specs.Places.{Below}
-use Rattle.kernel.proofs.Selected.{row, rows, selects}
 use Rattle.model.proofs.Limits.{limits}
+use Rattle.kernel.specs.Places.{Below}
+use Rattle.kernel.proofs.Selected.{selects}
 use Rattle.kernel.proofs.routes.Routes.outs.Goals as goal
 
-pub index-requires : goal.index-requires
-index-requires c =
-    let s = c.args.self.now in
-    omega (arith, c.requires, rows (out_links (shape_of s.plan)) s.outs s.plan.processes s.departures)
+pub returns-clause-below : goal.returns-clause-below
+returns-clause-below c =
+    let plan = shape_of c.args.self.now.plan in
+    let value : c.as_slice.result.now ≡ out_links plan c.args.process = search rules in
+    subst (Below (length plan.links)) (sym value) (selects (length plan.links) (λ k. is c.args.process (source plan k))).below
 
-pub returns : goal.returns
-returns c =
-    let s = c.args.self.now in
-    let p = c.args.process in
-    let links = vec_items s.plan.links in
-    let there = rows (out_links (shape_of s.plan)) s.outs s.plan.processes s.departures in
-    let is_links = c.as_slice.ensures.value
-    ∙ row (out_links (shape_of s.plan)) s.outs s.plan.processes p c.index.result.now s.departures c.requires
-    (omega (arith, c.requires, there)) c.index.ensures in
-    let test : ℕ → Bool = λ k. is p (source (shape_of s.plan) k) in
-    let all = selects (length links) test in
-    record {
-      value = is_links;
-      below = subst (Below (length links)) (sym is_links) all.below;
-      few = omega (arith, ap length is_links, all.few, (limits (shape_of s.plan) s.plan.limits).few_links);
-    }
+pub returns-clause-few : goal.returns-clause-few
+returns-clause-few c =
+    let plan = shape_of c.args.self.now.plan in
+    let value : c.as_slice.result.now ≡ out_links plan c.args.process = search rules in
+    let few = (selects (length plan.links) (λ k. is c.args.process (source plan k))).few in
+    omega (arith, ap length value, few, (limits plan c.args.self.now.plan.limits).few_links)
