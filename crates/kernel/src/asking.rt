@@ -5,6 +5,7 @@ ghost use Rattle.model.specs.Lists.{oldest};
 use model::cargo::Cargo;
 use model::event::Event;
 use model::links::Links;
+use std::marker::PhantomData;
 
 // Whether there are exactly so many links: they count from 0, so the last is there and the next is not.
 pub(crate) fn as_many<C: Cargo, L: Links<C>>(links: &L, count: usize) -> bool
@@ -16,32 +17,51 @@ pub(crate) fn as_many<C: Cargo, L: Links<C>>(links: &L, count: usize) -> bool
     links.floor(count).is_err()
 }
 
-pub(crate) fn floor_of<C: Cargo, L: Links<C>>(links: &L, link: usize) -> u32
-    requires { link < (L.Links.meaning links.now).count }
-    ensures { result ≡ (L.Links.meaning links.now).floor link }
-{
-    links.floor(link).unwrap()
+// A link that is there: no question about it is refused.
+#[derive(Drop)]
+pub(crate) struct Present<'a, C: Cargo, L: Links<C>> {
+    pub(crate) links: &'a L,
+    pub(crate) link: usize,
+    cargo: PhantomData<C>,
+    ghost there: { link < (L.Links.meaning links.now).count },
 }
 
-// The delay, with its limit, so that sums with it fit.
-pub(crate) fn delay_of<C: Cargo, L: Links<C>>(links: &L, link: usize) -> u32
-    requires { link < (L.Links.meaning links.now).count }
-    ensures is { result ≡ (L.Links.meaning links.now).delay link }
-    ensures near { result ≤ 1000000 }
-{
-    links.delay(link).unwrap()
-}
+impl<'a, C: Cargo, L: Links<C>> Present<'a, C, L> {
+    pub(crate) fn new(links: &'a L, link: usize) -> Present<'a, C, L>
+        requires { link < (L.Links.meaning links.now).count }
+        ensures links { result.links.now ≡ links.now }
+        ensures link { result.link ≡ link }
+    {
+        Present {
+            links,
+            link,
+            cargo: PhantomData,
+        }
+    }
 
-pub(crate) fn free_of<C: Cargo, L: Links<C>>(links: &L, link: usize) -> u32
-    requires { link < (L.Links.meaning links.now).count }
-    ensures { result ≡ (L.Links.meaning links.now).free link }
-{
-    links.free(link).unwrap()
-}
+    pub(crate) fn floor(&self) -> u32
+        ensures { result ≡ (L.Links.meaning self.now.links.now).floor self.now.link }
+    {
+        self.links.floor(self.link).unwrap()
+    }
 
-pub(crate) fn first_of<C: Cargo, L: Links<C>>(links: &L, link: usize) -> Option<Event<C>>
-    requires { link < (L.Links.meaning links.now).count }
-    ensures { result ≡ oldest ((L.Links.meaning links.now).waiting link) }
-{
-    links.first(link).unwrap()
+    // The delay, with its limit, so that sums with it fit.
+    pub(crate) fn delay(&self) -> u32
+        ensures is { result ≡ (L.Links.meaning self.now.links.now).delay self.now.link }
+        ensures near { result ≤ 1000000 }
+    {
+        self.links.delay(self.link).unwrap()
+    }
+
+    pub(crate) fn free(&self) -> u32
+        ensures { result ≡ (L.Links.meaning self.now.links.now).free self.now.link }
+    {
+        self.links.free(self.link).unwrap()
+    }
+
+    pub(crate) fn first(&self) -> Option<Event<C>>
+        ensures { result ≡ oldest ((L.Links.meaning self.now.links.now).waiting self.now.link) }
+    {
+        self.links.first(self.link).unwrap()
+    }
 }

@@ -1,32 +1,34 @@
 //! Clocks of links and of processes.
-ghost use Rattle.std.specs.Prelude.{◌≡◌, ◌<◌, ◌≤◌};
+ghost use Rattle.std.specs.Prelude.{◌≡◌, ◌≤◌};
 ghost use Rattle.simulation.specs.View.{link_clock, least_clock};
-ghost use Rattle.kernel.specs.Places.{Below};
 
-use crate::asking::{first_of, floor_of};
+use crate::asking::Present;
+use crate::ports::Ports;
 use model::cargo::Cargo;
 use model::links::Links;
 
-// The arrival of a link's first event, else its floor.
-pub(crate) fn clock_of<C: Cargo, L: Links<C>>(links: &L, link: usize) -> u32
-    requires { link < (L.Links.meaning links.now).count }
-    ensures { result ≡ link_clock (L.Links.meaning links.now) link }
-{
-    match first_of(links, link) {
-        Some(event) => event.time,
-        None => floor_of(links, link),
+impl<C: Cargo, L: Links<C>> Present<'_, C, L> {
+    // The arrival of the first event, else the floor.
+    pub(crate) fn clock(&self) -> u32
+        ensures { result ≡ link_clock (L.Links.meaning self.now.links.now) self.now.link }
+    {
+        match self.first() {
+            Some(event) => event.time,
+            None => self.floor(),
+        }
     }
 }
 
-// The smallest of the horizon and the clocks of the in-links.
-pub(crate) fn process_clock<C: Cargo, L: Links<C>>(links: &L, ins: &[usize], horizon: u32) -> u32
-    requires { Below (L.Links.meaning links.now).count ins.now }
-    ensures below { result ≤ horizon }
-    ensures is { result ≡ least_clock (L.Links.meaning links.now) horizon ins.now }
-{
-    let mut clock = horizon;
-    for link in ins {
-        clock = clock.min(clock_of(links, *link));
+impl<C: Cargo, L: Links<C>> Ports<'_, C, L> {
+    // The smallest of the horizon and the clocks of the links.
+    pub(crate) fn clock(&self, horizon: u32) -> u32
+        ensures below { result ≤ horizon }
+        ensures is { result ≡ least_clock (L.Links.meaning self.now.links.now) horizon self.now.list.now }
+    {
+        let mut clock = horizon;
+        for link in self.list {
+            clock = clock.min(Present::new(self.links, *link).clock());
+        }
+        clock
     }
-    clock
 }

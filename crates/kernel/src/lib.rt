@@ -5,6 +5,7 @@ mod asking;
 mod clock;
 mod marks;
 mod nulls;
+mod ports;
 mod room;
 mod routes;
 pub mod run;

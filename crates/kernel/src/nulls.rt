@@ -3,7 +3,7 @@ ghost use Rattle.std.specs.Prelude.{◌≡◌, ◌+◌, ◌<◌, ◌≤◌, if�
 ghost use Rattle.simulation.specs.Step.{Nulls};
 ghost use Rattle.kernel.specs.Places.{Below};
 
-use crate::asking::{delay_of, floor_of};
+use crate::asking::Present;
 use model::cargo::Cargo;
 use model::links::Links;
 
@@ -14,7 +14,8 @@ pub(crate) fn tell<C: Cargo, L: Links<C>>(links: &mut L, link: usize, time: u32)
     ensures count { (L.Links.meaning links.new).count ≡ (L.Links.meaning links.old).count }
     ensures nulls { Nulls time (link ∷ []) (L.Links.meaning links.old) (if result then 1 else 0) (L.Links.meaning links.new) }
 {
-    if floor_of(links, link) >= time + delay_of(links, link) {
+    let there = Present::new(links, link);
+    if there.floor() >= time + there.delay() {
         return false;
     }
     links.null(link, time).unwrap();

@@ -1,11 +1,10 @@
 //! Whether a sending keeps to its promises, and how it goes out.
-ghost use Rattle.std.specs.Prelude.{◌≡◌, ◌<◌, ◌≤◌, Some};
+ghost use Rattle.std.specs.Prelude.{◌≡◌, ◌<◌, Some};
 ghost use Rattle.model.specs.Lists.{oldest};
-ghost use Rattle.model.specs.Linking.{TakeDone, PutDone};
-ghost use Rattle.kernel.specs.Places.{Below};
-ghost use Rattle.kernel.specs.Judging.{judged, Bears, MayGo, Passed};
+ghost use Rattle.kernel.specs.Judging.{judged, MayGo, Passed};
 
-use crate::asking::{delay_of, floor_of};
+use crate::asking::Present;
+use crate::ports::Ports;
 use model::cargo::Cargo;
 use model::event::Event;
 use model::links::{LAST_TIME, Links};
@@ -20,70 +19,39 @@ pub(crate) struct Going<C> {
     pub(crate) cargo: C,
 }
 
-// What becomes of a sending of a process that may not be before the earliest time.
-pub(crate) fn judge<C: Cargo, L: Links<C>>(
-    links: &L,
-    outs: &[usize],
-    process: usize,
-    earliest: u32,
-    sending: Option<Sending<C>>,
-) -> Result<Option<Going<C>>, Breach>
-    requires { Below (L.Links.meaning links.now).count outs.now }
-    ensures { result ≡ judged (L.Links.meaning links.now) process outs.now earliest sending }
-{
-    let Some(Sending { port, time, cargo }) = sending else {
-        return Ok(None);
-    };
-    if port >= outs.len() {
-        return Ok(None);
-    }
-    let link = outs[port];
-    if time < earliest {
+impl<C: Cargo, L: Links<C>> Ports<'_, C, L> {
+    // What becomes of a sending of a process that may not be before the earliest time.
+    pub(crate) fn judge(
+        &self,
+        process: usize,
+        earliest: u32,
+        sending: Option<Sending<C>>,
+    ) -> Result<Option<Going<C>>, Breach>
+        ensures { result ≡ judged (L.Links.meaning self.now.links.now) process self.now.list.now earliest sending }
+    {
+        let Some(Sending { port, time, cargo }) = sending else {
+            return Ok(None);
+        };
+        if port >= self.list.len() {
+            return Ok(None);
+        }
+        let link = self.list[port];
+        let there = Present::new(self.links, link);
+        let cause = if time < earliest {
+            Cause::Early
+        } else if time > LAST_TIME {
+            Cause::TooFar
+        } else if time + there.delay() < there.floor() {
+            Cause::Overtaking
+        } else {
+            return Ok(Some(Going { link, time, cargo }));
+        };
         Err(Breach {
             process,
             link,
             time,
-            cause: Cause::Early,
+            cause,
         })
-    } else if time > LAST_TIME {
-        Err(Breach {
-            process,
-            link,
-            time,
-            cause: Cause::TooFar,
-        })
-    } else if time + delay_of(links, link) < floor_of(links, link) {
-        Err(Breach {
-            process,
-            link,
-            time,
-            cause: Cause::Overtaking,
-        })
-    } else {
-        Ok(Some(Going { link, time, cargo }))
-    }
-}
-
-// Takes the first event of a link.
-fn take_first<C: Cargo, L: Links<C>>(links: &mut L, link: usize, event: Event<C>)
-    requires there { link < (L.Links.meaning links.old).count }
-    requires first { oldest ((L.Links.meaning links.old).waiting link) ≡ Some event }
-    ensures { TakeDone (L.Links.meaning links.old) link event (L.Links.meaning links.new) }
-{
-    match links.take(link) {
-        Ok(_) => {}
-        Err(_) => unreachable(),
-    }
-}
-
-// Puts what its link takes.
-fn put_on<C: Cargo, L: Links<C>>(links: &mut L, going: Going<C>)
-    requires { Bears (L.Links.meaning links.old) going }
-    ensures { PutDone (L.Links.meaning links.old) going.link going.time going.cargo (L.Links.meaning links.new) }
-{
-    match links.put(going.link, going.time, going.cargo) {
-        Ok(()) => {}
-        Err(_) => unreachable(),
     }
 }
 
@@ -100,8 +68,8 @@ pub(crate) fn pass_on<C: Cargo, L: Links<C>>(
     ensures count { (L.Links.meaning links.new).count ≡ (L.Links.meaning links.old).count }
     ensures passed { Passed (L.Links.meaning links.old) link event going (L.Links.meaning links.new) }
 {
-    take_first(links, link, event);
-    if let Some(going) = going {
-        put_on(links, going);
+    links.take(link).unwrap();
+    if let Some(Going { link, time, cargo }) = going {
+        links.put(link, time, cargo).unwrap();
     }
 }

@@ -8,7 +8,6 @@ ghost use Rattle.simulation.specs.Programs.{program_of};
 ghost use Rattle.kernel.specs.OfRun.{view_of, Called};
 
 use super::Run;
-use crate::clock::process_clock;
 use model::cargo::Cargo;
 use model::links::Links;
 use model::process::Process;
@@ -20,7 +19,7 @@ impl<C: Cargo, P: Process<C>, L: Links<C>> Run<C, P, L> {
         requires { process < self.now.routes.plan.processes }
         ensures { result ≡ clock (shape_of self.now.routes.plan) (L.Links.meaning self.now.links) process }
     {
-        process_clock(&self.links, self.routes.ins(process), self.routes.horizon())
+        self.ins(process).clock(self.routes.horizon())
     }
 
     // The clock of a process: nothing that it will take arrives before.

@@ -2,18 +2,19 @@
 ghost use Rattle.std.specs.Prelude.{◌≡◌, ◌<◌, ◌≤◌, Some};
 ghost use Rattle.model.specs.Lists.{at};
 ghost use Rattle.model.specs.Made.{shape_of};
+ghost use Rattle.model.specs.Shape.{in_links, out_links};
 ghost use Rattle.simulation.specs.View.{has};
 ghost use Rattle.simulation.specs.Step.{Closes, Step};
 ghost use Rattle.simulation.specs.Programs.{program_of};
 ghost use Rattle.kernel.specs.OfRun.{view_of};
+ghost use Rattle.kernel.specs.Places.{Rising};
 ghost use Rattle.kernel.specs.Stages.{Taking, Finds};
 
 use super::Run;
-use crate::clock::process_clock;
 use crate::nulls::send_nulls;
-use crate::room::lowest_full;
-use crate::safety::{Safe, safe_event};
-use crate::sending::{judge, pass_on};
+use crate::ports::Ports;
+use crate::safety::Safe;
+use crate::sending::pass_on;
 use model::answer::Stepped;
 use model::cargo::Cargo;
 use model::event::Event;
@@ -30,12 +31,31 @@ impl<C: Cargo, P: Process<C>, L: Links<C>> Run<C, P, L> {
         process < self.routes.plan().processes()
     }
 
+    // The in-ports of a process.
+    pub(super) fn ins(&self, process: usize) -> Ports<'_, C, L>
+        requires { process < self.now.routes.plan.processes }
+        ensures links { result.links.now ≡ self.now.links }
+        ensures list { result.list.now ≡ in_links (shape_of self.now.routes.plan) process }
+        ensures rising { Rising result.list.now }
+    {
+        Ports::new(&self.links, self.routes.ins(process))
+    }
+
+    // The out-ports of a process.
+    fn outs(&self, process: usize) -> Ports<'_, C, L>
+        requires { process < self.now.routes.plan.processes }
+        ensures links { result.links.now ≡ self.now.links }
+        ensures list { result.list.now ≡ out_links (shape_of self.now.routes.plan) process }
+    {
+        Ports::new(&self.links, self.routes.outs(process))
+    }
+
     // The safe event of a process.
     fn safe(&self, process: usize) -> Option<Safe<C>>
         requires { process < self.now.routes.plan.processes }
         ensures { Finds (shape_of self.now.routes.plan) (L.Links.meaning self.now.links) process result }
     {
-        safe_event(&self.links, self.routes.ins(process), self.routes.horizon())
+        self.ins(process).safe_event(self.routes.horizon())
     }
 
     // Takes the safe event, unless an out-link or the log is full, or the sending is a breach.
@@ -45,8 +65,8 @@ impl<C: Cargo, P: Process<C>, L: Links<C>> Run<C, P, L> {
         requires safe { Finds (shape_of self.old.routes.plan) (L.Links.meaning self.old.links) process (Some safe) }
         ensures { Taking (program_of C.Cargo P.Process) (view_of L.Links.meaning self.old) process state safe result (view_of L.Links.meaning self.new) }
     {
-        let outs = self.routes.outs(process);
-        if let Some(link) = lowest_full(&self.links, outs) {
+        let outs = self.outs(process);
+        if let Some(link) = outs.lowest_full() {
             return Err(Refusal::Held(link));
         }
         if self.log.len() >= self.room {
@@ -60,20 +80,18 @@ impl<C: Cargo, P: Process<C>, L: Links<C>> Run<C, P, L> {
         let mut next = state;
         let earliest = time + state.lookahead();
         let sending = next.handle(port, time, cargo);
-        match judge(&self.links, outs, process, earliest, sending) {
-            Err(breach) => Err(Refusal::Breached(breach)),
-            Ok(going) => {
-                pass_on(&mut self.links, link, Event { time, cargo }, going);
-                self.processes[process] = next;
-                self.log.push_reserved(Record {
-                    process,
-                    link,
-                    time,
-                    code: cargo.code(),
-                });
-                Ok(())
-            }
-        }
+        let going = outs
+            .judge(process, earliest, sending)
+            .map_err(Refusal::Breached)?;
+        pass_on(&mut self.links, link, Event { time, cargo }, going);
+        self.processes[process] = next;
+        self.log.push_reserved(Record {
+            process,
+            link,
+            time,
+            code: cargo.code(),
+        });
+        Ok(())
     }
 
     // Ends a step: nulls by the clock as it is now, and the mark.
@@ -84,7 +102,8 @@ impl<C: Cargo, P: Process<C>, L: Links<C>> Run<C, P, L> {
         ensures processes { self.new.processes.items ≡ self.old.processes.items }
         ensures log { self.new.log.items ≡ self.old.log.items }
     {
-        let clock = process_clock(&self.links, self.routes.ins(process), self.routes.horizon());
+        let horizon = self.routes.horizon();
+        let clock = self.ins(process).clock(horizon);
         let nulls = send_nulls(
             &mut self.links,
             self.routes.outs(process),
