@@ -1,8 +1,5 @@
 pub mod Putting
 pub mod Numbers
-pub mod Former
-pub mod Nine
 pub mod FewFields
-pub mod OneLine
-pub mod NotNet
-pub mod Planned
+pub mod Spelling
+pub mod Nine

@@ -1,64 +1,79 @@
 -- What differs between the families: their kinds of process, and their cargo.
-use Rattle.std.specs.Prelude.{ℕ, List, Some, None, Ok, Err, Option, Result}
+use Rattle.std.specs.Prelude.{ℕ, List, Ok, Err, Result}
 use Rattle.std.specs.Result.{result_map_both}
-use Rattle.exit.specs.declared.kind.Kind.TheVariants as kind
 use Rattle.road.specs.Kinds.{RoadProcess}
+use Rattle.exit.specs.declared.kind.Kind.TheVariants as kind
 use Rattle.road.specs.declared.vehicle.Vehicle.{Vehicle}
 use Rattle.road.specs.Vehicles.{vehicle_of}
 use Rattle.packet.specs.Kinds.{PacketProcess}
 use Rattle.packet.specs.declared.frame.Frame.{Frame}
 use Rattle.packet.specs.Frames.{frame_of}
+use Rattle.model.specs.declared.opening.Opening.{Opening}
 use Rattle.model.specs.declared.reading.Problem.TheVariants.{OutOfRange, UnknownWord}
 use Rattle.model.specs.declared.reading.RecordFault.{RecordFault}
 use Rattle.model.specs.declared.reading.RecordFault.TheVariants.{InField}
-use Rattle.records.specs.Binding.{and_then, faulty}
-use Rattle.records.specs.Cells.{ranged}
+use Rattle.records.specs.Binding.{and_then}
+use Rattle.records.specs.Rows.{Row, kind_of, number_of, cell, faulty}
+use Rattle.records.specs.Cells.{made, ranged, unused, outside_of}
 use Rattle.records.specs.Kinds.{signal_record, switch_record, exit_record}
+use Rattle.records.specs.declared.reading.kinds.PlannedLink.{PlannedLink}
 use Rattle.records.specs.declared.reading.words.Word.{Word}
-use Rattle.records.specs.declared.reading.words.Word.TheVariants.{Net, Signal, Switch, Exit, Link, Event, Unknown}
+use Rattle.records.specs.declared.reading.words.Word.TheVariants.{Net, Signal, Switch, Exit, Link, Event}
 
--- A word that is unknown, out of order or of the other family.
-abbrev pub misplaced_word : ℕ → RecordFault
-misplaced_word line = InField (faulty line 1 UnknownWord)
+-- How a family reads a process of its word as the next, and the cargo of an event.
+abbrev pub ProcessReading : Type 0 → Type 0
+ProcessReading P = ℕ → Word → Row → Result P RecordFault
 
-abbrev pub misplaced : {A : Type 0} → ℕ → Result A RecordFault
-misplaced line = Err (misplaced_word line)
+abbrev pub CargoReading : Type 0 → Type 0
+CargoReading C = Row → Result C RecordFault
 
--- What two fields in range make. There is one, so the fault is for show only.
-abbrev pub loaded_at : {A : Type 0} → ℕ → Option A → Result A RecordFault
-loaded_at line None = Err (InField (faulty line 4 OutOfRange))
-loaded_at line (Some x) = Ok x
+-- A word that is out of order or of the other family.
+abbrev pub misplaced_word : Row → RecordFault
+misplaced_word r = InField (faulty (kind_of r) UnknownWord)
+
+abbrev pub misplaced : {A : Type 0} → Row → Result A RecordFault
+misplaced r = Err (misplaced_word r)
 
 -- Road: signals and exits.
-abbrev pub road_process : ℕ → ℕ → Word → List ℕ → List ℕ → List ℕ → List ℕ → List ℕ → List ℕ → List ℕ → List ℕ → Result RoadProcess RecordFault
-road_process line next Net n a b c d e f g = misplaced line
-road_process line next Signal n a b c d e f g = result_map_both kind.Node (λ e. e) (signal_record line next n a b c d e f g)
-road_process line next Switch n a b c d e f g = misplaced line
-road_process line next Exit n a b c d e f g = result_map_both kind.Exit (λ e. e) (exit_record line next n a b c d e f g)
-road_process line next Link n a b c d e f g = misplaced line
-road_process line next Event n a b c d e f g = misplaced line
-road_process line next Unknown n a b c d e f g = misplaced line
+abbrev pub road_process : ProcessReading RoadProcess
+road_process next Net r = misplaced r
+road_process next Signal r = result_map_both kind.Node (λ e. e) (signal_record next r)
+road_process next Switch r = misplaced r
+road_process next Exit r = result_map_both kind.Exit (λ e. e) (exit_record next r)
+road_process next Link r = misplaced r
+road_process next Event r = misplaced r
 
--- Vehicles: class, route.
-abbrev pub road_cargo : ℕ → List ℕ → List ℕ → Result Vehicle RecordFault
-road_cargo line a b =
-    and_then InField (ranged line 4 0 3 a) (λ class.
-    and_then InField (ranged line 5 0 65535 b) (λ route.
-    loaded_at line (vehicle_of class route)))
+-- Vehicles: class, route. Two fields in range make one, so the last fault is for show only.
+abbrev pub road_cargo : CargoReading Vehicle
+road_cargo r =
+    and_then InField (ranged 0 3 (cell r 4)) (λ class.
+    and_then InField (ranged 0 65535 (cell r 5)) (λ route.
+    and_then InField (made OutOfRange (cell r 4) (vehicle_of class route)) Ok))
 
 -- Switch: switches and exits.
-abbrev pub switch_process : ℕ → ℕ → Word → List ℕ → List ℕ → List ℕ → List ℕ → List ℕ → List ℕ → List ℕ → List ℕ → Result PacketProcess RecordFault
-switch_process line next Net n a b c d e f g = misplaced line
-switch_process line next Signal n a b c d e f g = misplaced line
-switch_process line next Switch n a b c d e f g = result_map_both kind.Node (λ e. e) (switch_record line next n a b c d e f g)
-switch_process line next Exit n a b c d e f g = result_map_both kind.Exit (λ e. e) (exit_record line next n a b c d e f g)
-switch_process line next Link n a b c d e f g = misplaced line
-switch_process line next Event n a b c d e f g = misplaced line
-switch_process line next Unknown n a b c d e f g = misplaced line
+abbrev pub switch_process : ProcessReading PacketProcess
+switch_process next Net r = misplaced r
+switch_process next Signal r = misplaced r
+switch_process next Switch r = result_map_both kind.Node (λ e. e) (switch_record next r)
+switch_process next Exit r = result_map_both kind.Exit (λ e. e) (exit_record next r)
+switch_process next Link r = misplaced r
+switch_process next Event r = misplaced r
 
--- Frames: destination, length.
-abbrev pub switch_cargo : ℕ → List ℕ → List ℕ → Result Frame RecordFault
-switch_cargo line a b =
-    and_then InField (ranged line 4 0 255 a) (λ destination.
-    and_then InField (ranged line 5 1 9000 b) (λ size.
-    loaded_at line (frame_of destination size)))
+-- Frames: destination, length. Two fields in range make one, so the last fault is for show only.
+abbrev pub switch_cargo : CargoReading Frame
+switch_cargo r =
+    and_then InField (ranged 0 255 (cell r 4)) (λ destination.
+    and_then InField (ranged 1 9000 (cell r 5)) (λ size.
+    and_then InField (made OutOfRange (cell r 4) (frame_of destination size)) Ok))
+
+-- event: link, time, cargo
+abbrev pub event_of : {C : Type 0} → CargoReading C → List PlannedLink → Row → Result (Opening C) RecordFault
+event_of loads links r =
+    and_then InField (outside_of links (number_of r)) (λ k.
+    and_then InField (ranged 0 1000000 (cell r 3)) (λ time.
+    and_then (λ fault. fault) (loads r) (λ cargo.
+    and_then InField (unused (cell r 6)) (λ _.
+    and_then InField (unused (cell r 7)) (λ _.
+    and_then InField (unused (cell r 8)) (λ _.
+    and_then InField (unused (cell r 9)) (λ _.
+    Ok (record { link = k; time = time; cargo = cargo }))))))))

@@ -1,10 +1,12 @@
 pub mod Limits
 pub mod LogText
 pub mod Binding
+pub mod Rows
 pub mod Words
 pub mod Cells
 pub mod Kinds
 pub mod Families
+pub mod Filling
 pub mod Adding
 pub mod Lines
 pub mod PlanText

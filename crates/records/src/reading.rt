@@ -1,11 +1,12 @@
 //! Plans read from text.
-pub mod adding;
+mod adding;
+pub mod cell;
 pub mod families;
 pub mod fields;
 pub mod kinds;
-pub mod lines;
+mod lines;
+pub mod lists;
 mod lookups;
 pub mod plan;
-pub mod starts;
-pub mod taking;
+mod taking;
 pub mod words;

@@ -1,6 +1,6 @@
 //! Lines appended to a text.
-ghost use Rattle.std.specs.Prelude.{◌≡◌, ◌++◌, is_ok, IfOk, if◌then◌else◌};
-ghost use Rattle.records.specs.LogText.{heading, line_numbers, number_line};
+ghost use Rattle.std.specs.Prelude.{◌≡◌, IfOk};
+ghost use Rattle.records.specs.LogText.{Appends, heading, line_numbers, number_line};
 
 use model::numbered::Numbered;
 use model::record::Record;
@@ -9,7 +9,7 @@ use text::numbers::append_number;
 
 // Appends the heading of a log. Without memory for it, the text stays as it is.
 pub fn append_heading(out: &mut Vec<u8>) -> Result<(), AllocError>
-    ensures { out.new.items ≡ (if is_ok result then out.old.items ++ heading else out.old.items) }
+    ensures { Appends out.old.items heading result out.new.items }
 {
     out.extend_from_slice(b"process,n,time,link,cargo\r\n")
 }
@@ -21,7 +21,7 @@ pub fn append_record(
     event: Record,
     n: usize,
 ) -> Result<(), AllocError>
-    ensures { out.new.items ≡ (if is_ok result then out.old.items ++ number_line (line_numbers event n) else out.old.items) }
+    ensures { Appends out.old.items (number_line (line_numbers event n)) result out.new.items }
 {
     let numbers = [
         event.process as u64,
@@ -39,7 +39,7 @@ pub fn append_refusal<R: Numbered>(
     heap: Global,
     refusal: &R,
 ) -> Result<(), AllocError>
-    ensures { out.new.items ≡ (if is_ok result then out.old.items ++ number_line (R.numbers refusal.now) else out.old.items) }
+    ensures { Appends out.old.items (number_line (R.numbers refusal.now)) result out.new.items }
 {
     let numbers = refusal.numbers(heap)?;
     append_numbers(out, heap, numbers.as_slice())
@@ -47,7 +47,7 @@ pub fn append_refusal<R: Numbered>(
 
 // Appends a line of numbers. Without memory for it, the text stays as it is.
 fn append_numbers(out: &mut Vec<u8>, heap: Global, numbers: &[u64]) -> Result<(), AllocError>
-    ensures { out.new.items ≡ (if is_ok result then out.old.items ++ number_line numbers.now else out.old.items) }
+    ensures { Appends out.old.items (number_line numbers.now) result out.new.items }
 {
     let line = line_of_numbers(heap, numbers)?;
     out.extend_from_slice(line.as_slice())

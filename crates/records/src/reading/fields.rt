@@ -1,152 +1,102 @@
-//! The fields of a record, one by one.
-ghost use Rattle.std.specs.Prelude.{◌≡◌};
-ghost use Rattle.model.specs.Lists.{is_none};
-ghost use Rattle.records.specs.Cells.{ranged, next_of, unused, existing_of, source_of, quota_of, outside_of, outside_at};
+//! The nine fields of a record.
+ghost use Rattle.std.specs.Prelude.{◌≡◌, ◌≤◌, length};
+ghost use Rattle.text.specs.Fields.{cut_line};
+ghost use Rattle.records.specs.Rows.{kind_of, number_of, cell, row_cut};
+ghost use Rattle.records.specs.Families.{misplaced_word};
 
-use model::link::Link;
-use model::reading::{FieldFault, Problem};
-use text::numbers::read_number;
+use super::cell::Cell;
+use model::reading::{FieldFault, Problem, RecordFault};
+use std::marker::Model;
+use text::fields::cut_fields;
 
-// A number from low to high.
-pub fn read_in_range(
-    line: u32,
-    field: u32,
-    low: u32,
-    high: u32,
-    bytes: &[u8],
-) -> Result<u32, FieldFault>
-    ensures { result ≡ ranged line field low high bytes.now }
-{
-    match read_number(bytes) {
-        Some(n) if low <= n && n <= high => Ok(n),
-        _ => Err(FieldFault {
-            line,
-            field,
-            problem: Problem::OutOfRange,
-        }),
-    }
+// A record of a line: its kind, its number and the rest.
+#[derive(Drop)]
+pub struct Fields<'a> {
+    pub line: u32,
+    kind: &'a [u8],
+    number: &'a [u8],
+    rest: [&'a [u8]; 7],
 }
 
-// The next number, in field 2.
-pub fn read_next(line: u32, next: usize, bytes: &[u8]) -> Result<u32, FieldFault>
-    ensures { result ≡ next_of line next bytes.now }
-{
-    match read_number(bytes) {
-        Some(n) if n as usize == next => Ok(n),
-        Some(_) => Err(FieldFault {
-            line,
-            field: 2,
-            problem: Problem::NotNext,
-        }),
-        None => Err(FieldFault {
-            line,
-            field: 2,
-            problem: Problem::OutOfRange,
-        }),
-    }
+impl<'a> Model for Fields<'a> {
+    ghost use Rattle.std.specs.Prelude.{map};
+    ghost use Rattle.records.specs.Rows.{Row};
+
+    ghost Value = { Row };
+
+    ghost view = { λ r. record { line = r.line; kind = r.kind.now; number = r.number.now; rest = map (λ x. x.now) r.rest } };
 }
 
-// A field that its kind of record does not use.
-pub fn read_unused(line: u32, field: u32, bytes: &[u8]) -> Result<(), FieldFault>
-    ensures { result ≡ unused line field bytes.now }
-{
-    if bytes.len() == 0 {
-        Ok(())
-    } else {
-        Err(FieldFault {
+impl<'a> Fields<'a> {
+    // Cuts a line into its fields, of which there must be nine.
+    pub fn of_line(line: u32, bytes: &'a [u8]) -> Result<Fields<'a>, RecordFault>
+        requires { length bytes.now ≤ 65536 }
+        ensures { result ≡ row_cut line (cut_line bytes.now) }
+    {
+        let empty = &bytes[0..0];
+        let mut fields = [empty; 9];
+        let count = match cut_fields(bytes, &mut fields) {
+            Ok(count) => count,
+            Err(malformed) => {
+                let field = malformed.field as u32;
+                return Err(RecordFault::InField(FieldFault {
+                    line,
+                    field,
+                    problem: Problem::Malformed,
+                }));
+            }
+        };
+        if count != 9 {
+            return Err(RecordFault::NotNineFields(line));
+        }
+        let [kind, number, a, b, c, d, e, f, g] = fields;
+        Ok(Fields {
             line,
-            field,
-            problem: Problem::OutOfRange,
+            kind,
+            number,
+            rest: [a, b, c, d, e, f, g],
         })
     }
-}
 
-// The number of one of so many processes.
-pub fn read_process_number(
-    line: u32,
-    field: u32,
-    processes: usize,
-    bytes: &[u8],
-) -> Result<usize, FieldFault>
-    ensures { result ≡ existing_of line field processes bytes.now }
-{
-    match read_number(bytes) {
-        Some(n) if (n as usize) < processes => Ok(n as usize),
-        Some(_) => Err(FieldFault {
-            line,
-            field,
-            problem: Problem::Absent,
-        }),
-        None => Err(FieldFault {
-            line,
-            field,
-            problem: Problem::OutOfRange,
-        }),
+    // Field 1: the word that names the kind.
+    pub fn kind(&self) -> Cell<'a>
+        ensures { result ≡ kind_of self.now }
+    {
+        Cell {
+            line: self.line,
+            field: 1,
+            bytes: self.kind,
+        }
     }
-}
 
-// The process that a link leads from, in field 3; an empty field stands for outside.
-pub fn read_source(line: u32, processes: usize, bytes: &[u8]) -> Result<Option<usize>, FieldFault>
-    ensures { result ≡ source_of line processes bytes.now }
-{
-    if bytes.len() == 0 {
-        return Ok(None);
-    }
-    match read_process_number(line, 3, processes, bytes) {
-        Ok(process) => Ok(Some(process)),
-        Err(fault) => Err(fault),
-    }
-}
-
-// A link's quota, in field 6; an empty field leaves it as it is.
-pub fn read_quota(line: u32, bytes: &[u8]) -> Result<Option<u32>, FieldFault>
-    ensures { result ≡ quota_of line bytes.now }
-{
-    if bytes.len() == 0 {
-        return Ok(None);
-    }
-    match read_in_range(line, 6, 1, 65_535, bytes) {
-        Ok(quota) => Ok(Some(quota)),
-        Err(fault) => Err(fault),
-    }
-}
-
-// Whether a link leads from outside.
-fn leads_in(link: &Link) -> bool
-    ensures { result ≡ is_none link.now.from }
-{
-    match link.from {
-        None => true,
-        Some(_) => false,
-    }
-}
-
-// Whether there is a link of this number and it leads from outside.
-fn is_outside(links: &[Link], number: usize) -> bool
-    ensures { result ≡ outside_at links.now number }
-{
-    if number < links.len() {
-        leads_in(&links[number])
-    } else {
-        false
-    }
-}
-
-// The link of an event, in field 2: one that leads from outside.
-pub fn read_outside_link(line: u32, links: &[Link], bytes: &[u8]) -> Result<usize, FieldFault>
-    ensures { result ≡ outside_of line links.now bytes.now }
-{
-    match read_number(bytes) {
-        Some(n) if is_outside(links, n as usize) => Ok(n as usize),
-        Some(_) => Err(FieldFault {
-            line,
+    // Field 2.
+    pub fn number(&self) -> Cell<'a>
+        ensures { result ≡ number_of self.now }
+    {
+        Cell {
+            line: self.line,
             field: 2,
-            problem: Problem::Absent,
-        }),
-        None => Err(FieldFault {
-            line,
-            field: 2,
-            problem: Problem::OutOfRange,
-        }),
+            bytes: self.number,
+        }
+    }
+
+    // A field from 3 on.
+    pub fn cell(&self, field: u32) -> Cell<'a>
+        requires first { 3 ≤ field }
+        requires last { field ≤ 9 }
+        ensures { result ≡ cell self.now field }
+    {
+        Cell {
+            line: self.line,
+            field,
+            bytes: self.rest[field as usize - 3],
+        }
+    }
+
+    // Why a record is refused whose word is out of order or of the other family.
+    pub fn misplaced(&self) -> RecordFault
+        ensures { result ≡ misplaced_word self.now }
+    {
+        RecordFault::InField(self.kind().fault(Problem::UnknownWord))
     }
 }

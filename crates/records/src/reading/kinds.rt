@@ -1,14 +1,12 @@
-//! The kinds of record: each takes its eight fields behind the word from the left.
+//! The kinds of record: each takes its fields behind the word from the left.
 ghost use Rattle.std.specs.Prelude.{◌≡◌};
 ghost use Rattle.records.specs.Kinds.{net_of, signal_record, switch_record, exit_record, link_of};
 
-use super::fields::{
-    read_in_range, read_next, read_process_number, read_quota, read_source, read_unused,
-};
-use super::words::{Family, Store, read_family, read_store};
+use super::fields::Fields;
+use super::words::{Family, Store};
 use exit::Exit;
 use model::link::Link;
-use model::reading::{FieldFault, Problem, RecordFault};
+use model::reading::RecordFault;
 use packet::switch::Switch;
 use road::signal::Signal;
 use road::signal::settings::Settings;
@@ -29,27 +27,17 @@ pub struct PlannedLink {
     pub quota: Option<u32>,
 }
 
-pub fn read_net(
-    line: u32,
-    number: &[u8],
-    a: &[u8],
-    b: &[u8],
-    c: &[u8],
-    d: &[u8],
-    e: &[u8],
-    f: &[u8],
-    g: &[u8],
-) -> Result<Net, RecordFault>
-    ensures { result ≡ net_of line number.now a.now b.now c.now d.now e.now f.now g.now }
+pub fn read_net(fields: &Fields) -> Result<Net, RecordFault>
+    ensures { result ≡ net_of fields.now }
 {
-    let family = read_family(line, number)?;
-    let horizon = read_in_range(line, 3, 1, 1_000_000, a)?;
-    let places = read_in_range(line, 4, 4, 1_024, b)?;
-    let store = read_store(line, c)?;
-    read_unused(line, 6, d)?;
-    read_unused(line, 7, e)?;
-    read_unused(line, 8, f)?;
-    read_unused(line, 9, g)?;
+    let family = fields.number().word::<Family>()?;
+    let horizon = fields.cell(3).in_range(1, 1_000_000)?;
+    let places = fields.cell(4).in_range(4, 1_024)?;
+    let store = fields.cell(5).word::<Store>()?;
+    fields.cell(6).unused()?;
+    fields.cell(7).unused()?;
+    fields.cell(8).unused()?;
+    fields.cell(9).unused()?;
     Ok(Net {
         family,
         horizon,
@@ -58,28 +46,17 @@ pub fn read_net(
     })
 }
 
-pub fn read_signal(
-    line: u32,
-    next: usize,
-    number: &[u8],
-    a: &[u8],
-    b: &[u8],
-    c: &[u8],
-    d: &[u8],
-    e: &[u8],
-    f: &[u8],
-    g: &[u8],
-) -> Result<Signal, RecordFault>
-    ensures { result ≡ signal_record line next number.now a.now b.now c.now d.now e.now f.now g.now }
+pub fn read_signal(next: usize, fields: &Fields) -> Result<Signal, RecordFault>
+    ensures { result ≡ signal_record next fields.now }
 {
-    read_next(line, next, number)?;
-    let lookahead = read_in_range(line, 3, 1, 10_000, a)?;
-    let cycle = read_in_range(line, 4, 1, 10_000, b)?;
-    let green = read_in_range(line, 5, 1, cycle, c)?;
-    let offset = read_in_range(line, 6, 0, cycle.saturating_sub(1), d)?;
-    let headway = read_in_range(line, 7, 1, 10_000, e)?;
-    let crossing = read_in_range(line, 8, 1, 10_000, f)?;
-    read_unused(line, 9, g)?;
+    fields.number().next(next)?;
+    let lookahead = fields.cell(3).in_range(1, 10_000)?;
+    let cycle = fields.cell(4).in_range(1, 10_000)?;
+    let green = fields.cell(5).in_range(1, cycle)?;
+    let offset = fields.cell(6).in_range(0, cycle.saturating_sub(1))?;
+    let headway = fields.cell(7).in_range(1, 10_000)?;
+    let crossing = fields.cell(8).in_range(1, 10_000)?;
+    fields.cell(9).unused()?;
     let settings = Settings {
         lookahead,
         cycle,
@@ -88,104 +65,49 @@ pub fn read_signal(
         headway,
         crossing,
     };
-    match Signal::new(settings) {
-        Some(signal) => Ok(signal),
-        None => Err(RecordFault::InField(FieldFault {
-            line,
-            field: 3,
-            problem: Problem::OutOfRange,
-        })),
-    }
+    Ok(fields.cell(3).made(Signal::new(settings))?)
 }
 
-pub fn read_switch(
-    line: u32,
-    next: usize,
-    number: &[u8],
-    a: &[u8],
-    b: &[u8],
-    c: &[u8],
-    d: &[u8],
-    e: &[u8],
-    f: &[u8],
-    g: &[u8],
-) -> Result<Switch, RecordFault>
-    ensures { result ≡ switch_record line next number.now a.now b.now c.now d.now e.now f.now g.now }
+pub fn read_switch(next: usize, fields: &Fields) -> Result<Switch, RecordFault>
+    ensures { result ≡ switch_record next fields.now }
 {
-    read_next(line, next, number)?;
-    let lookahead = read_in_range(line, 3, 1, 10_000, a)?;
-    let service = read_in_range(line, 4, 1, 10_000, b)?;
-    read_unused(line, 5, c)?;
-    read_unused(line, 6, d)?;
-    read_unused(line, 7, e)?;
-    read_unused(line, 8, f)?;
-    read_unused(line, 9, g)?;
-    match Switch::new(lookahead, service) {
-        Some(switch) => Ok(switch),
-        None => Err(RecordFault::InField(FieldFault {
-            line,
-            field: 3,
-            problem: Problem::OutOfRange,
-        })),
-    }
+    fields.number().next(next)?;
+    let lookahead = fields.cell(3).in_range(1, 10_000)?;
+    let service = fields.cell(4).in_range(1, 10_000)?;
+    fields.cell(5).unused()?;
+    fields.cell(6).unused()?;
+    fields.cell(7).unused()?;
+    fields.cell(8).unused()?;
+    fields.cell(9).unused()?;
+    Ok(fields.cell(3).made(Switch::new(lookahead, service))?)
 }
 
-pub fn read_exit(
-    line: u32,
-    next: usize,
-    number: &[u8],
-    a: &[u8],
-    b: &[u8],
-    c: &[u8],
-    d: &[u8],
-    e: &[u8],
-    f: &[u8],
-    g: &[u8],
-) -> Result<Exit, RecordFault>
-    ensures { result ≡ exit_record line next number.now a.now b.now c.now d.now e.now f.now g.now }
+pub fn read_exit(next: usize, fields: &Fields) -> Result<Exit, RecordFault>
+    ensures { result ≡ exit_record next fields.now }
 {
-    read_next(line, next, number)?;
-    let lookahead = read_in_range(line, 3, 1, 10_000, a)?;
-    read_unused(line, 4, b)?;
-    read_unused(line, 5, c)?;
-    read_unused(line, 6, d)?;
-    read_unused(line, 7, e)?;
-    read_unused(line, 8, f)?;
-    read_unused(line, 9, g)?;
-    match Exit::new(lookahead) {
-        Some(exit) => Ok(exit),
-        None => Err(RecordFault::InField(FieldFault {
-            line,
-            field: 3,
-            problem: Problem::OutOfRange,
-        })),
-    }
+    fields.number().next(next)?;
+    let lookahead = fields.cell(3).in_range(1, 10_000)?;
+    fields.cell(4).unused()?;
+    fields.cell(5).unused()?;
+    fields.cell(6).unused()?;
+    fields.cell(7).unused()?;
+    fields.cell(8).unused()?;
+    fields.cell(9).unused()?;
+    Ok(fields.cell(3).made(Exit::new(lookahead))?)
 }
 
 // A link record of a plan with so many processes.
-pub fn read_link(
-    line: u32,
-    next: usize,
-    processes: usize,
-    number: &[u8],
-    a: &[u8],
-    b: &[u8],
-    c: &[u8],
-    d: &[u8],
-    e: &[u8],
-    f: &[u8],
-    g: &[u8],
-) -> Result<PlannedLink, RecordFault>
-    ensures { result ≡ link_of line next processes number.now a.now b.now c.now d.now e.now f.now g.now }
+pub fn read_link(next: usize, processes: usize, fields: &Fields) -> Result<PlannedLink, RecordFault>
+    ensures { result ≡ link_of next processes fields.now }
 {
-    read_next(line, next, number)?;
-    let from = read_source(line, processes, a)?;
-    let to = read_process_number(line, 4, processes, b)?;
-    let delay = read_in_range(line, 5, 0, 10_000, c)?;
-    let quota = read_quota(line, d)?;
-    read_unused(line, 7, e)?;
-    read_unused(line, 8, f)?;
-    read_unused(line, 9, g)?;
+    fields.number().next(next)?;
+    let from = fields.cell(3).source(processes)?;
+    let to = fields.cell(4).process(processes)?;
+    let delay = fields.cell(5).in_range(0, 10_000)?;
+    let quota = fields.cell(6).quota()?;
+    fields.cell(7).unused()?;
+    fields.cell(8).unused()?;
+    fields.cell(9).unused()?;
     Ok(PlannedLink {
         link: Link { from, to, delay },
         quota,

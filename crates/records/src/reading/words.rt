@@ -1,11 +1,17 @@
 //! The words of a plan.
-ghost use Rattle.std.specs.Prelude.{◌≡◌};
+ghost use Rattle.std.specs.Prelude.{◌≡◌, ℕ, List, Option as Maybe};
 ghost use Rattle.records.specs.Words.{word_of, family_of, store_of};
 
-use model::reading::{FieldFault, Problem};
-use text::bytes::same;
+// A choice of words, of which a field holds one.
+pub trait Choice: Copy {
+    ghost spelt: { List ℕ → Maybe Self };
 
-// The word that a record begins with.
+    // What these bytes stand for, if they are a word of the choice.
+    fn of_bytes(bytes: &[u8]) -> Option<Self>
+        ensures { result ≡ spelt bytes.now };
+}
+
+// The word that a record begins with: its kind.
 #[derive(Clone, Copy, PartialEq, Eq, Debug)]
 pub enum Word {
     Net,
@@ -14,7 +20,6 @@ pub enum Word {
     Exit,
     Link,
     Event,
-    Unknown,
 }
 
 // The two families of plans: roads with vehicles, and switches with frames.
@@ -31,57 +36,42 @@ pub enum Store {
     Pool,
 }
 
-// The kind of a record.
-pub fn read_word(bytes: &[u8]) -> Word
-    ensures { result ≡ word_of bytes.now }
-{
-    if same(bytes, b"net") {
-        Word::Net
-    } else if same(bytes, b"signal") {
-        Word::Signal
-    } else if same(bytes, b"switch") {
-        Word::Switch
-    } else if same(bytes, b"exit") {
-        Word::Exit
-    } else if same(bytes, b"link") {
-        Word::Link
-    } else if same(bytes, b"event") {
-        Word::Event
-    } else {
-        Word::Unknown
+impl Choice for Word {
+    ghost spelt = { word_of };
+
+    fn of_bytes(bytes: &[u8]) -> Option<Word> {
+        match bytes {
+            b"net" => Some(Word::Net),
+            b"signal" => Some(Word::Signal),
+            b"switch" => Some(Word::Switch),
+            b"exit" => Some(Word::Exit),
+            b"link" => Some(Word::Link),
+            b"event" => Some(Word::Event),
+            _ => None,
+        }
     }
 }
 
-// The family that a net record names.
-pub fn read_family(line: u32, bytes: &[u8]) -> Result<Family, FieldFault>
-    ensures { result ≡ family_of line bytes.now }
-{
-    if same(bytes, b"road") {
-        Ok(Family::Road)
-    } else if same(bytes, b"switch") {
-        Ok(Family::Switch)
-    } else {
-        Err(FieldFault {
-            line,
-            field: 2,
-            problem: Problem::UnknownWord,
-        })
+impl Choice for Family {
+    ghost spelt = { family_of };
+
+    fn of_bytes(bytes: &[u8]) -> Option<Family> {
+        match bytes {
+            b"road" => Some(Family::Road),
+            b"switch" => Some(Family::Switch),
+            _ => None,
+        }
     }
 }
 
-// The store that a net record names.
-pub fn read_store(line: u32, bytes: &[u8]) -> Result<Store, FieldFault>
-    ensures { result ≡ store_of line bytes.now }
-{
-    if same(bytes, b"ring") {
-        Ok(Store::Ring)
-    } else if same(bytes, b"pool") {
-        Ok(Store::Pool)
-    } else {
-        Err(FieldFault {
-            line,
-            field: 5,
-            problem: Problem::UnknownWord,
-        })
+impl Choice for Store {
+    ghost spelt = { store_of };
+
+    fn of_bytes(bytes: &[u8]) -> Option<Store> {
+        match bytes {
+            b"ring" => Some(Store::Ring),
+            b"pool" => Some(Store::Pool),
+            _ => None,
+        }
     }
 }

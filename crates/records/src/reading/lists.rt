@@ -1,0 +1,31 @@
+//! The caller's lists, which the records of a plan fill.
+use super::kinds::PlannedLink;
+use model::opening::Opening;
+use packet::frame::Frame;
+use packet::kind::PacketKind;
+use road::kind::RoadKind;
+use road::vehicle::Vehicle;
+
+// The lists of a family. Each has room for as many items as its capacity.
+#[derive(Drop)]
+pub struct Lists<C, P> {
+    pub processes: Vec<P>,
+    pub links: Vec<PlannedLink>,
+    pub openings: Vec<Opening<C>>,
+}
+
+// The lists of both families, of which a plan fills one.
+#[derive(Drop)]
+pub struct PlanLists {
+    pub roads: Lists<Vehicle, RoadKind>,
+    pub switches: Lists<Frame, PacketKind>,
+}
+
+// How long the lists were before the first record, and how many places each link has.
+#[derive(Clone, Copy)]
+pub struct Starts {
+    pub processes: usize,
+    pub links: usize,
+    pub openings: usize,
+    pub places: u32,
+}
