@@ -4,7 +4,7 @@ use Rattle.std.proofs.lemmas.Bool.Decides.{nat_tests}
 use Rattle.model.specs.Pile.{Pile}
 use Rattle.slots.specs.Empty.{suitable, empty}
 use Rattle.plan_to_log.specs.Stack.{Unset}
-use Rattle.plan_to_log.specs.Reading.{PlacesWithin}
+use Rattle.plan_to_log.specs.Sensible.{PlacesWithin}
 use Rattle.ring.specs.Meaning as ring
 
 -- Links on which nothing was put are fresh.

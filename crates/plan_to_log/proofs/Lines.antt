@@ -1,17 +1,28 @@
--- One line more of a history.
-use Rattle.std.proofs.Common.{◌≡◌, ℕ, ◌+◌, ◌<◌, List, ◌++◌, length, get_or, drop, sym, ap, ◌∙◌, append_assoc, add-one}
+-- The lines of a history, and one history more.
+use Rattle.std.proofs.Common.{◌≡◌, ◌==◌, ℕ, ◌+◌, cond, List, [], ◌∷◌, ◌++◌, filter, flat_map, refl, sym, ap, ◌∙◌, append_assoc, add-one}
+use Rattle.std.specs.List.{enumerate_from}
 use Rattle.model.specs.declared.record.Record.{Record}
 use Rattle.simulation.specs.View.{history}
 use Rattle.records.specs.LogText.{heading, number_line, line_numbers}
-use Rattle.kernel.proofs.Recorded.{history_next}
 use Rattle.plan_to_log.specs.Histories.{lines_from, histories, log_text}
 
--- A record of the process gives the next line.
-pub line_next : (p : ℕ) (log : List Record) (i n : ℕ) (d : Record) (out : List ℕ) → i < length log → (get_or log i d).process ≡ p
-    → (out ++ number_line (line_numbers (get_or log i d) n)) ++ lines_from (n + 1) (history p (drop (i + 1) log))
-    ≡ out ++ lines_from n (history p (drop i log))
-line_next p log i n d out l e =
-    append_assoc out (number_line (line_numbers (get_or log i d) n)) (lines_from (n + 1) (history p (drop (i + 1) log))) ∙ ap (λ h. out ++ lines_from n h) (sym (history_next p log i d l e))
+-- The line of a record that stands at a place.
+abbrev pub numbered : ℕ × Record → List ℕ
+numbered e = number_line (line_numbers e.1 e.0)
+
+-- A history is what a filter by the process keeps.
+history_kept : (p : ℕ) (log : List Record) → filter (λ r. r.process == p) log ≡ history p log
+history_kept p [] = refl
+history_kept p (r ∷ rs) = ap (λ h. cond (r.process == p) (r ∷ h) h) (history_kept p rs)
+
+-- The lines of records, each with its place from n on.
+lines_numbered : (n : ℕ) (rs : List Record) → flat_map numbered (enumerate_from n rs) ≡ lines_from n rs
+lines_numbered n [] = refl
+lines_numbered n (r ∷ rs) = ap (λ l. number_line (line_numbers r n) ++ l) (lines_numbered (n + 1) rs)
+
+-- So these are the lines of a history.
+pub lines_of_history : (p : ℕ) (log : List Record) → flat_map numbered (enumerate_from 0 (filter (λ r. r.process == p) log)) ≡ lines_from 0 (history p log)
+lines_of_history p log = lines_numbered 0 (filter (λ r. r.process == p) log) ∙ ap (lines_from 0) (history_kept p log)
 
 -- The history of one process more.
 pub histories_next : (p : ℕ) (log : List Record) → log_text (p + 1) log ≡ log_text p log ++ lines_from 0 (history p log)

@@ -1,23 +1,34 @@
 -- The settings of a plan suit its links, so no layer refuses them.
-use Rattle.std.proofs.Common.{◌≡◌, ℕ, zero, suc, ◌+◌, ◌<◌, ◌≤◌, true, List, [], ◌∷◌, map, length, get_or, drop, set, Some, None, Err, Option, refl, ap, ◌∙◌, subst, arith}
+use Rattle.std.proofs.Common.{◌≡◌, ℕ, zero, suc, ◌+◌, ◌<◌, ◌≤◌, true, List, [], ◌∷◌, map, length, get_or, drop, set, Some, None, Option, Ok, Err, Result, IsOk, IsSome, refl, sym, ap, ◌∙◌, subst, arith}
+use Rattle.std.proofs.lemmas.Bool.{true≢false}
 use Rattle.std.proofs.lemmas.List.{at_drop_more}
 use Rattle.model.specs.declared.fault.SettingFault.{SettingFault}
 use Rattle.model.specs.declared.fault.SettingFault.TheVariants.{NoSuchLink, Unsuitable}
 use Rattle.model.specs.declared.link.Link.{Link}
+use Rattle.model.specs.declared.plan.Plan.{Plan}
 use Rattle.model.specs.Lists.{at}
+use Rattle.model.specs.Made.{Made, shape_of}
 use Rattle.model.specs.Pile.{Pile}
 use Rattle.model.specs.Shape.{Shape, delay_of, within}
 use Rattle.simulation.proofs.PlanLimits.{delay_below}
 use Rattle.layers.specs.Layer.{Setting}
-use Rattle.layers.specs.Delayed.{delayed, added, later, DelaySuits}
-use Rattle.layers.specs.Rationed.{rationed, QuotaSuits}
-use Rattle.plan_to_log.specs.Stack.{delays_from, quotas_from, quota_at, Unset, DelaysWithin, stack_of}
+use Rattle.layers.specs.Delayed.{added, later, DelaySuits}
+use Rattle.layers.specs.Rationed.{QuotaSuits}
+use Rattle.records.specs.declared.reading.kinds.PlannedLink.{PlannedLink}
+use Rattle.plan_to_log.specs.Sensible.{shaped}
+use Rattle.plan_to_log.specs.Stack.{delays_from, quotas_from, quota_at, Unset, DelaysWithin, links_in}
 
 -- A layer does not refuse what suits a link that is there.
-pub not_refused : (count k : ℕ) (suits : Type 0) (table after : List ℕ) (f : SettingFault) → k < count → suits
-    → Setting count suits table k 0 (Err f) after → ⊥
-not_refused count k suits table after NoSuchLink l s r = omega (arith, r.0)
-not_refused count k suits table after Unsuitable l s r = r.1 s
+pub granted : (count k x : ℕ) (suits : Type 0) (table after : List ℕ) (r : Result (Unit {0}) SettingFault) → k < count → suits
+    → Setting count suits table k x r after → IsOk r
+granted count k x suits table after (Ok done) l s asked = refl
+granted count k x suits table after (Err NoSuchLink) l s asked = absurd (omega (arith, asked.0))
+granted count k x suits table after (Err Unsuitable) l s asked = absurd (asked.1 s)
+
+-- And where it does not, this is its table.
+pub table_set : (count k x : ℕ) (suits : Type 0) (table after : List ℕ) (r : Result (Unit {0}) SettingFault) {done : Unit {0}} → r ≡ Ok done
+    → Setting count suits table k x r after → after ≡ set table k x
+table_set count k x suits table after r e asked = (subst (λ o. Setting count suits table k x o after) e asked).2
 
 module _ {C : Type 0} (links : ℕ) (m : Pile C) (unset : Unset links m) (k : ℕ) (l : k < links) where
   -- A delay of at most 10,000 suits a link without one.
@@ -38,32 +49,36 @@ module _ {C : Type 0} (links : ℕ) (m : Pile C) (unset : Unset links m) (k : �
     small = small;
   }
 
--- What stands at a place of a list.
-at_get_d : {A : Type 0} (xs : List A) (n : ℕ) (d : A) → n < length xs → at xs n ≡ Some (get_or xs n d)
-at_get_d [] n d l = absurd (omega arith)
-at_get_d (x ∷ xs) zero d l = refl
-at_get_d (x ∷ xs) (suc n) d l = at_get_d xs n d (omega arith)
+-- The link that is planned at a place.
+at_link : (ps : List PlannedLink) (n : ℕ) (d : PlannedLink) → n < length ps → at (links_in ps) n ≡ Some (get_or ps n d).link
+at_link [] n d l = absurd (omega arith)
+at_link (p ∷ ps) zero d l = refl
+at_link (p ∷ ps) (suc n) d l = at_link ps n d (omega arith)
 
 -- The delays of a plan are within their limit.
-pub delays_within : (plan : Shape) → within plan ≡ true → DelaysWithin plan.links
-delays_within plan ok k d l = subst (λ o. delay_of o ≤ 10000) (at_get_d plan.links k d l) (delay_below plan ok k)
+pub delays_within : (horizon processes : ℕ) (ps : List PlannedLink) → within (shaped horizon processes (links_in ps)) ≡ true → DelaysWithin ps
+delays_within horizon processes ps ok k d l =
+    subst (λ o. delay_of o ≤ 10000) (at_link ps k d l) (delay_below (shaped horizon processes (links_in ps)) ok k)
 
 -- The delay of one link more.
-pub delays_next : (links : List Link) (i : ℕ) (d : Link) (table : List ℕ) → i < length links
-    → delays_from i (drop i links) table ≡ delays_from (i + 1) (drop (i + 1) links) (set table i (get_or links i d).delay)
-delays_next links i d table l = at_drop_more (λ ls. delays_from i ls table) links i d l
+pub delays_next : (ps : List PlannedLink) (i : ℕ) (d : PlannedLink) (table : List ℕ) → i < length ps
+    → delays_from i (drop i ps) table ≡ delays_from (i + 1) (drop (i + 1) ps) (set table i (get_or ps i d).link.delay)
+delays_next ps i d table l = at_drop_more (λ qs. delays_from i qs table) ps i d l
 
 -- The quota of one link more.
-pub quotas_next : (quotas : List (Option ℕ)) (i : ℕ) (table : List ℕ) → i < length quotas
-    → quotas_from i (drop i quotas) table ≡ quotas_from (i + 1) (drop (i + 1) quotas) (quota_at i (get_or quotas i None) table)
-quotas_next quotas i table l = at_drop_more (λ qs. quotas_from i qs table) quotas i None l
+pub quotas_next : (ps : List PlannedLink) (i : ℕ) (d : PlannedLink) (table : List ℕ) → i < length ps
+    → quotas_from i (drop i ps) table ≡ quotas_from (i + 1) (drop (i + 1) ps) (quota_at i (get_or ps i d).quota table)
+quotas_next ps i d table l = at_drop_more (λ qs. quotas_from i qs table) ps i d l
 
--- Two stacks over the same store, with the same tables, mean the same.
-pub same_stack : {C S : Type 0} (meaning : S → Pile C) {a b : S} {l k : List ℕ} {e f : List ℕ} → a ≡ b → l ≡ k → e ≡ f
-    → delayed (rationed (meaning a) l) e ≡ delayed (rationed (meaning b) k) f
-same_stack meaning {a} {b} {l} {k} {e} {f} p q r =
-    ap (λ s. delayed (rationed (meaning s) l) e) p ∙ ap (λ t. delayed (rationed (meaning b) t) e) q ∙ ap (delayed (rationed (meaning b) k)) r
+-- A plan within its limits is made.
+pub plan_made : (s : Shape) (r : Option Plan) → within s ≡ true → Made s r → IsSome r
+plan_made s None ok made = absurd (true≢false (sym ok ∙ made))
+plan_made s (Some plan) ok made = refl
 
--- The same stack, by other names of the settings.
-pub stack_alike : {C : Type 0} (store : Pile C) {ls ms : List Link} {qs rs : List (Option ℕ)} → ls ≡ ms → qs ≡ rs → stack_of store ls qs ≡ stack_of store ms rs
-stack_alike store {ls} {ms} {qs} {rs} e f = ap (λ l. stack_of store l qs) e ∙ ap (stack_of store ms) f
+-- And it is as it was planned.
+pub plan_says : (s : Shape) {r : Option Plan} {plan : Plan} → r ≡ Some plan → Made s r → shape_of plan ≡ s
+plan_says s e made = (subst (Made s) e made).1
+
+-- The same plan, by other names of its parts.
+pub shaped_alike : (horizon : ℕ) {n m : ℕ} {ls ks : List Link} → n ≡ m → ls ≡ ks → shaped horizon n ls ≡ shaped horizon m ks
+shaped_alike horizon {n} {m} {ls} {ks} e f = ap (λ x. shaped horizon x ls) e ∙ ap (shaped horizon m) f

@@ -16,12 +16,12 @@ fn append_history(
 ) -> Result<(), AllocError>
     ensures { OnOk result (out.new.items ≡ out.old.items ++ lines_from 0 (history process log.now)) }
 {
-    let mut n: usize = 0;
-    for record in log {
-        if record.process == process {
-            append_record(out, heap, *record, n)?;
-            n += 1;
-        }
+    for (n, record) in log
+        .iter()
+        .filter(|record| record.process == process)
+        .enumerate()
+    {
+        append_record(out, heap, *record, n)?;
     }
     Ok(())
 }

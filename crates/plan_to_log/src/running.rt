@@ -37,14 +37,15 @@ fn refusals<C: Cargo, P: Process<C>, L: Links<C>>(
 {
     let mut standing = Vec::new(heap);
     for process in 0..processes {
-        if let Ok(clock) = run.clock(process) {
-            if let Err(why) = run.step(process) {
-                standing.push(Standing {
-                    process,
-                    clock,
-                    why,
-                })?;
-            }
+        let Ok(clock) = run.clock(process) else {
+            continue;
+        };
+        if let Err(why) = run.step(process) {
+            standing.push(Standing {
+                process,
+                clock,
+                why,
+            })?;
         }
     }
     Ok(standing)

@@ -2,22 +2,32 @@
 ghost use Rattle.std.specs.Prelude.{◌≡◌, ◌*◌, length, IfOk};
 ghost use Rattle.simulation.specs.Programs.{program_of};
 ghost use Rattle.ring.specs.Meaning.{opened};
-ghost use Rattle.plan_to_log.specs.Reading.{store_of, reading_sensible, reading_net, reading_over};
+ghost use Rattle.plan_to_log.specs.Reading.{store_of, reading_net, reading_over};
 ghost use Rattle.plan_to_log.specs.Running.{Ran};
-ghost use Rattle.plan_to_log.specs.Stack.{Unset};
+ghost use Rattle.plan_to_log.specs.Stack.{Unset, links_in};
 
 use crate::output::Output;
 use crate::reading::Reading;
 use crate::running::run_net;
-use crate::stack::stacked;
+use crate::stack::Planned;
 use model::cargo::Cargo;
 use model::event::Event;
+use model::link::Link;
 use model::links::Links;
 use model::plan::Plan;
 use model::process::Process;
+use records::reading::kinds::PlannedLink;
 use records::reading::words::Store;
 use ring::store::Ring;
 use std::alloc::{AllocError, Global};
+use std::marker::PhantomData;
+
+// The links of a plan, without their quotas.
+fn links_of(heap: Global, planned: &[PlannedLink]) -> Result<Vec<Link>, AllocError>
+    ensures { IfOk result (λ v. v.items ≡ links_in planned.now) }
+{
+    planned.iter().map(|planned| planned.link).collect(heap)
+}
 
 // What becomes of a plan over a store.
 fn run_over<C: Cargo, P: Process<C>, S: Links<C> + Drop>(
@@ -25,8 +35,7 @@ fn run_over<C: Cargo, P: Process<C>, S: Links<C> + Drop>(
     reading: Reading<C, P>,
     store: S,
 ) -> Result<Output, AllocError>
-    requires unset { Unset (length reading.links.items) (S.Links.meaning store) }
-    requires sensible { reading_sensible reading }
+    requires { Unset (length reading.links.items) (S.Links.meaning store) }
     ensures { IfOk result (λ o. Ran (program_of C.Cargo P.Process) (reading_net reading) (reading_over reading (S.Links.meaning store)) o.text.items o.ending) }
 {
     let Reading {
@@ -34,27 +43,26 @@ fn run_over<C: Cargo, P: Process<C>, S: Links<C> + Drop>(
         processes,
         opening,
         links,
-        quotas,
     } = reading;
-    let stack = stacked(store, links.as_slice(), quotas.as_slice());
-    match Plan::new(net.horizon, processes.len(), links) {
-        Some(plan) => run_net(heap, plan, processes, opening.as_slice(), stack),
-        None => unreachable(),
-    }
+    let bare = links_of(heap, links.as_slice())?;
+    let plan = Plan::new(net.horizon, processes.len(), bare).unwrap();
+    let planned = Planned {
+        links: store,
+        settings: links.as_slice(),
+        cargo: PhantomData::<C>,
+    };
+    run_net(heap, plan, processes, opening.as_slice(), planned.stacked())
 }
 
 // So many slots for a ring, with an event in each that is never read.
 fn ring_slots<C: Cargo>(heap: Global, count: usize, blank: C) -> Result<Vec<Event<C>>, AllocError>
     ensures { IfOk result (λ v. length v.items ≡ count) }
 {
-    let mut slots = Vec::with_capacity(heap, count)?;
-    for _ in 0..count {
-        slots.push(Event {
-            time: 0,
-            cargo: blank,
-        })?;
-    }
-    Ok(slots)
+    let never_read = Event {
+        time: 0,
+        cargo: blank,
+    };
+    vec![in heap; never_read; count]
 }
 
 // What becomes of a plan over a ring.
@@ -63,7 +71,6 @@ fn run_over_ring<C: Cargo, P: Process<C>>(
     reading: Reading<C, P>,
     blank: C,
 ) -> Result<Output, AllocError>
-    requires { reading_sensible reading }
     ensures { IfOk result (λ o. Ran (program_of C.Cargo P.Process) (reading_net reading) (reading_over reading (opened (length reading.links.items) (length reading.links.items * reading.net.places))) o.text.items o.ending) }
 {
     let links = reading.links.len();
@@ -77,11 +84,9 @@ pub(crate) fn run_reading<C: Cargo, P: Process<C>>(
     reading: Reading<C, P>,
     blank: C,
 ) -> Result<Output, AllocError>
-    requires { reading_sensible reading }
     ensures { IfOk result (λ o. Ran (program_of C.Cargo P.Process) (reading_net reading) (reading_over reading (store_of reading.net.store (length reading.links.items) reading.net.places)) o.text.items o.ending) }
 {
     match reading.net.store {
-        Store::Ring => run_over_ring(heap, reading, blank),
-        Store::Pool => run_over_ring(heap, reading, blank),
+        Store::Ring | Store::Pool => run_over_ring(heap, reading, blank),
     }
 }

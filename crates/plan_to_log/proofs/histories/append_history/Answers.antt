@@ -1,38 +1,20 @@
-use Rattle.std.proofs.Common.{◌++◌, vec_items, sym, ap, ◌∙◌, append-nil, arith}
-use Rattle.std.proofs.lemmas.List.{at_drop_all}
-use Rattle.simulation.specs.View.{history}
-use Rattle.kernel.proofs.Recorded.{history_skips}
-use Rattle.plan_to_log.specs.Histories.{lines_from}
-use Rattle.plan_to_log.proofs.Lines.{line_next}
+use Rattle.std.proofs.Common.{rules, tests, ◌==◌, flat_map, vec_items, ◌++◌, sym, ap, ◌∙◌}
+use Rattle.std.specs.Iterator.Adapters.{enumerate_source}
+use Rattle.std.proofs.lemmas.Iterator.{YieldsList-from_slice}
+use Rattle.std.proofs.lemmas.Iterator.Consumers.{YieldsList-at, YieldsList-from_filter, YieldsList-from_enumerate, YieldsList-end}
+use Rattle.std.proofs.lemmas.List.Folds.{flat_map-map}
+use Rattle.plan_to_log.proofs.Lines.{numbered, lines_of_history}
 use Rattle.plan_to_log.proofs.histories.append_history.Goals as goal
-use Rattle.plan_to_log.proofs.histories.append_history.Goals.{then-record-process+in_ok-append_record, else-record-process}
-
-pub loop-record-preserved : goal.loop-record-preserved
-loop-record-preserved c =
-    let p = c.args.process in
-    let log = c.args.log.now in
-    let i = c.loop-record.record-index in
-    let lt = c.loop-record-test.true in
-    let inv = c.loop-record.invariant in
-    elim c.if-record-process.branch [
-      | then-record-process+in_ok-append_record w ↦
-          let line = w.in_ok-append_record.ensures in
-          let next = line_next p log i c.loop-record.n _ (vec_items c.loop-record.out) lt w.if-record-process.true in
-          let out = ap vec_items w.out-is in
-          let n = w.n-is in
-          let before = inv.1 in
-          (omega (arith, n, inv.0), cc)
-      | else-record-process w ↦
-          let skips = history_skips p log i _ lt w.if-record-process.false in
-          let out = ap vec_items w.out-is in
-          let n = w.n-is in
-          let before = inv.1 in
-          (omega (arith, n, inv.0), cc)
-    ]
 
 pub returns : goal.returns
 returns c =
     let p = c.args.process in
     let log = c.args.log.now in
-    let none = at_drop_all (λ l. lines_from c.loop-record.n (history p l)) log c.loop-record.record-index c.loop-record-test.false in
-    sym (append-nil (vec_items c.loop-record.out)) ∙ ap (λ l. vec_items c.loop-record.out ++ l) (sym none) ∙ c.loop-record.invariant.1
+    let end = YieldsList-end
+    (YieldsList-from_enumerate
+    (YieldsList-at (ap enumerate_source c.into_iter-n-iterator.ensures.into_iter_gives ∙ c.enumerate-n-items.ensures.source)
+    (YieldsList-from_filter _ (λ r. r.process == p) (YieldsList-from_slice log cc) c.filter.ensures.closure (λ x b q k. search (rules, tests))))
+    (cc))
+    c.loop-n.yielded _ c.loop-n.yielded_by _ _ c.in-None.is c.next.ensures.steps in
+    let lines = sym (flat_map-map numbered (λ e. (e.0, e.1.now)) c.loop-n.yielded) ∙ ap (flat_map numbered) end.0 ∙ lines_of_history p log in
+    c.loop-n.invariant ∙ ap (λ l. vec_items c.args.out.now ++ l) lines

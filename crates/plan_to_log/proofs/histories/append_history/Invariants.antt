@@ -1,11 +1,7 @@
-use Rattle.std.proofs.Common.{◌≡◌, ◌≤◌, ◌++◌, drop, vec_items}
-use Rattle.simulation.specs.View.{history}
-use Rattle.plan_to_log.specs.Histories.{lines_from}
+use Rattle.std.proofs.Common.{◌≡◌, ◌++◌, flat_map, vec_items}
+use Rattle.plan_to_log.proofs.Lines.{numbered}
 use Rattle.plan_to_log.proofs.histories.append_history.Given as goal
 
--- What is written and what is to come make the history.
-abbrev pub invariant-loop-record : goal.invariant-loop-record
-invariant-loop-record l =
-    (l.n ≤ l.record-index)
-    × (vec_items l.out ++ lines_from l.n (history l.process (drop l.record-index l.log))
-    ≡ vec_items l.initial.out ++ lines_from 0 (history l.process l.log))
+-- The lines of the records so far are written.
+abbrev pub invariant-loop-n : goal.invariant-loop-n
+invariant-loop-n l = vec_items l.out ≡ vec_items l.initial.out ++ flat_map (λ e. numbered (e.0, e.1.now)) l.yielded

@@ -1,27 +1,28 @@
-use Rattle.std.proofs.Common.{vec_items, ap, ◌∙◌, arith}
+use Rattle.std.proofs.Common.{vec_items, refl, ap, ◌∙◌, arith}
 use Rattle.simulation.specs.Programs.{program_of}
 use Rattle.kernel.specs.OfRun.{view_of}
 use Rattle.plan_to_log.proofs.Refused.{none_yet, all_stepped, passes_on, goes_on, stands_there}
 use Rattle.plan_to_log.proofs.running.refusals.Goals as goal
-use Rattle.plan_to_log.proofs.running.refusals.Goals.{in-Ok+in-Err+in_ok-push, in-Ok+in_default-step, in_default}
+use Rattle.plan_to_log.proofs.running.refusals.Goals.{in-Err+in_ok-push, in_default-step}
 
 pub loop-process-init : goal.loop-process-init
 loop-process-init g c =
     none_yet (program_of g.C.Cargo g.P.Process) (view_of g.L.Links.meaning c.args.run.now) c.new-standing.ensures.items
 
+pub loop-process-preserved-in_default : goal.loop-process-preserved-in_default
+loop-process-preserved-in_default g c =
+    passes_on (program_of g.C.Cargo g.P.Process) (view_of g.L.Links.meaning c.args.run.now) refl refl c.loop-process.invariant c.in_default.ensures.outcome.0
+
 pub loop-process-preserved : goal.loop-process-preserved
 loop-process-preserved g c =
     let program = program_of g.C.Cargo g.P.Process in
-    let view = view_of g.L.Links.meaning in
-    let first = view c.args.run.now in
-    elim c.match-clock.branch [
-      | in-Ok+in-Err+in_ok-push w ↦
-          stands_there program first (ap vec_items w.standing-is ∙ w.in_ok-push.ensures.items) (ap view w.run-is)
-          c.loop-process.invariant w.in-Ok.ensures.outcome.0 w.in-Err.ensures.called.outcome
-      | in-Ok+in_default-step w ↦
-          goes_on program first (ap vec_items w.standing-is) (ap view w.run-is) c.loop-process.invariant w.in_default-step.ensures.called.outcome
-      | in_default w ↦
-          passes_on program first (ap vec_items w.standing-is) (ap view w.run-is) c.loop-process.invariant w.in_default.ensures.outcome.0
+    let first = view_of g.L.Links.meaning c.args.run.now in
+    elim c.match-step.branch [
+      | in-Err+in_ok-push w ↦
+          stands_there program first (ap vec_items w.standing-is ∙ w.in_ok-push.ensures.items) refl
+          c.loop-process.invariant c.in-Ok.ensures.outcome.0 w.in-Err.ensures.called.outcome
+      | in_default-step w ↦
+          goes_on program first (ap vec_items w.standing-is) refl c.loop-process.invariant w.in_default-step.ensures.called.outcome
     ]
 
 pub returns : goal.returns

@@ -1,33 +1,37 @@
-use Rattle.std.proofs.Common.{length, vec_items, sym, ap, ◌∙◌, subst}
+use Rattle.std.proofs.Common.{◌≡◌, true, length, vec_items, sym, ap, ◌∙◌, subst}
 use Rattle.std.proofs.lemmas.Result.{IfOk-weaker}
+use Rattle.model.specs.Shape.{within}
 use Rattle.simulation.specs.Programs.{program_of}
-use Rattle.plan_to_log.specs.Reading.{shaped}
-use Rattle.plan_to_log.specs.Stack.{Unset, DelaysWithin, QuotasWithin}
-use Rattle.plan_to_log.proofs.Settings.{delays_within, stack_alike}
+use Rattle.plan_to_log.specs.Sensible.{shaped}
+use Rattle.plan_to_log.specs.Stack.{Unset, DelaysWithin, QuotasWithin, links_in, stack_of}
+use Rattle.plan_to_log.proofs.Settings.{delays_within, plan_made, plan_says, shaped_alike}
 use Rattle.plan_to_log.proofs.RunOut.{ran_alike}
 use Rattle.plan_to_log.proofs.stores.run_over.Goals as goal
 
-pub stacked-stack-requires : goal.stacked-stack-requires
-stacked-stack-requires g c =
+pub unwrap-plan-requires : goal.unwrap-plan-requires
+unwrap-plan-requires g c =
     let r = c.args.reading in
-    let ok = c.requires.sensible in
-    let links = sym c.as_slice.ensures.value in
-    let quotas = sym c.as_slice-2.ensures.value in
+    let same = shaped_alike r.net.horizon (c.len.ensures ∙ r.processes.ok.0) (c.in_ok-bare.ensures ∙ ap links_in c.as_slice.ensures.value) in
+    let shape = shaped r.net.horizon c.len.result (vec_items c.in_ok-bare.bare) in
+    plan_made shape c.new.result (subst (λ s. within s ≡ true) (sym same) r.sensible.limits) c.new.ensures
+
+pub invariant_of-planned : goal.invariant_of-planned
+invariant_of-planned g c =
+    let r = c.args.reading in
+    let settings = sym c.as_slice-2.ensures.value in
     record {
-      unset = subst (λ ls. Unset (length ls) (g.S.Links.meaning c.args.store)) links c.requires.unset;
-      delays = subst DelaysWithin links
-          (delays_within (shaped r.net.horizon (length (vec_items r.processes)) (vec_items r.links)) ok.limits);
-      as_many = ap length (sym quotas) ∙ ok.as_many ∙ ap length links;
-      quotas = subst QuotasWithin quotas ok.allowed;
+      unset = subst (λ ps. Unset (length ps) (g.S.Links.meaning c.args.store)) settings c.requires;
+      delays = subst DelaysWithin settings (delays_within r.net.horizon (length (vec_items r.processes)) (vec_items r.links) r.sensible.limits);
+      quotas = subst QuotasWithin settings r.sensible.allowed;
     }
 
 pub returns : goal.returns
 returns g c =
     let r = c.args.reading in
-    let many = c.len.ensures ∙ r.processes.ok.0 in
+    let same = shaped_alike r.net.horizon (c.len.ensures ∙ r.processes.ok.0) (c.in_ok-bare.ensures ∙ ap links_in c.as_slice.ensures.value) in
     IfOk-weaker c.run_net.result _ _
     (λ o. ran_alike (program_of g.C.Cargo g.P.Process) (vec_items r.processes) (vec_items o.text) o.ending
-    (c.in-Some.ensures.1 ∙ ap (λ n. shaped r.net.horizon n (vec_items r.links)) many)
-    c.as_slice-in-Some.ensures.value
-    (c.stacked-stack.ensures ∙ stack_alike (g.S.Links.meaning c.args.store) c.as_slice.ensures.value c.as_slice-2.ensures.value))
+    (plan_says _ c.unwrap-plan.ensures c.new.ensures ∙ same)
+    c.as_slice-3.ensures.value
+    (c.stacked.ensures ∙ ap (stack_of (g.S.Links.meaning c.args.store)) c.as_slice-2.ensures.value))
     c.run_net.ensures

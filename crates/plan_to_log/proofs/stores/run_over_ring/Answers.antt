@@ -11,10 +11,7 @@ pub run_over-requires : goal.run_over-requires
 run_over-requires g c =
     let made = ring_made _ c.new.ensures (c.len-links.ensures ∙ c.args.reading.links.ok.0)
     (ap length c.as_mut_slice.ensures.value ∙ c.in_ok-slots.ensures) in
-    record {
-      unset = subst (Unset (length (vec_items c.args.reading.links))) (sym made) (ring_unset _ _ c.requires.places);
-      sensible = c.requires;
-    }
+    subst (Unset (length (vec_items c.args.reading.links))) (sym made) (ring_unset _ _ c.args.reading.sensible.places)
 
 pub returns : goal.returns
 returns g c =
