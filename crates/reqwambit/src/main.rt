@@ -3,7 +3,7 @@
 
 mod worked;
 
-use anyhow::anyhow;
+use anyhow::{Context, anyhow};
 use kernel::run::Run;
 use kernel::run::comparing::same_history;
 use layers::delay::Delay;
@@ -12,11 +12,12 @@ use model::answer::Passed;
 use model::event::Event;
 use model::links::Links;
 use model::numbered::Numbered;
-use model::record::Record;
+use plan_to_log::histories::write_log;
 use ring::store::Ring;
 use road::kind::RoadKind;
 use road::vehicle::Vehicle;
 use std::alloc::Global;
+use std::io::Write;
 
 // The log has room for so many records.
 const LOG_SIZE: usize = 4_096;
@@ -26,10 +27,8 @@ const MOST_PASSES: u32 = 1_000_000;
 
 // Slots for a store, with an event that is never read.
 fn slots(heap: Global, count: usize) -> anyhow::Result<Vec<Event<Vehicle>>> {
-    match Vehicle::new(0, 0) {
-        Some(cargo) => Ok(vec![in heap; Event { time: 0, cargo }; count]?),
-        None => Err(anyhow!("a vehicle is outside its limits")),
-    }
+    let cargo = Vehicle::new(0, 0).context("a vehicle is outside its limits")?;
+    Ok(vec![in heap; Event { time: 0, cargo }; count]?)
 }
 
 // The worked plan over these links.
@@ -38,17 +37,15 @@ fn prepared<L: Links<Vehicle> + Drop>(
     links: L,
 ) -> anyhow::Result<Run<Vehicle, RoadKind, L>> {
     let opening = worked::opening(heap)?;
-    match Run::prepare(
+    Run::prepare(
         heap,
         worked::plan(heap)?,
         worked::processes(heap)?,
         opening.as_slice(),
         links,
         LOG_SIZE,
-    ) {
-        Ok(run) => Ok(run),
-        Err(_) => Err(anyhow!("the run is not prepared")),
-    }
+    )
+    .map_err(|_| anyhow!("the run is not prepared"))
 }
 
 // Steps the processes from the last to the first, so many times over.
@@ -59,34 +56,6 @@ fn backwards<L: Links<Vehicle>>(run: &mut Run<Vehicle, RoadKind, L>, times: u32)
     }
 }
 
-// Writes the history of each process, one line a record.
-fn write_log<L: Links<Vehicle>>(
-    rt: &HostRuntime,
-    run: &Run<Vehicle, RoadKind, L>,
-) -> anyhow::Result<()> {
-    print!(rt; "process,n,time,link,cargo\r\n")?;
-    for process in 0..2 {
-        let Ok(count) = run.count(process) else {
-            return Err(anyhow!("no such process"));
-        };
-        for n in 0..count {
-            let Ok(
-                Record {
-                    process,
-                    link,
-                    time,
-                    code,
-                },
-            ) = run.record(process, n)
-            else {
-                return Err(anyhow!("no such record"));
-            };
-            print!(rt; "{process},{n},{time},{link},{code}\r\n")?;
-        }
-    }
-    Ok(())
-}
-
 // Runs the plan over two stacks of links, the second stepped backwards, and compares the two.
 fn compared<S: Links<Vehicle> + Drop, T: Links<Vehicle> + Drop>(
     rt: &HostRuntime,
@@ -95,18 +64,19 @@ fn compared<S: Links<Vehicle> + Drop, T: Links<Vehicle> + Drop>(
 ) -> anyhow::Result<()> {
     let heap = rt.alloc();
     let mut links = Delay::new(Quota::new(first));
-    if links.set(worked::TO_EXIT, worked::DELAY).is_err() {
-        return Err(anyhow!("the delay is not set"));
-    }
+    links
+        .set(worked::TO_EXIT, worked::DELAY)
+        .map_err(|_| anyhow!("the delay is not set"))?;
     let mut other_links = Delay::new(second);
-    if other_links.set(worked::TO_EXIT, worked::DELAY).is_err() {
-        return Err(anyhow!("the delay is not set"));
-    }
+    other_links
+        .set(worked::TO_EXIT, worked::DELAY)
+        .map_err(|_| anyhow!("the delay is not set"))?;
     let mut run = prepared(heap, links)?;
     let mut other = prepared(heap, other_links)?;
     let Passed { passes, quiet } = run.run(MOST_PASSES);
     backwards(&mut other, 20);
-    write_log(rt, &run)?;
+    rt.stdout()
+        .write_all(write_log(heap, run.log(), worked::PROCESSES)?.as_slice())?;
     let rounds = run.rounds();
     let done = run.done();
     eprintln!(rt; "{passes} passes (quiet: {quiet}), {rounds} rounds, done: {done}")?;
@@ -122,19 +92,15 @@ fn filled<S: Links<Vehicle> + Drop>(
     cargo: Vehicle,
 ) -> anyhow::Result<()> {
     let mut links = Quota::new(store);
-    if links.set(0, 3).is_err() {
-        return Err(anyhow!("the quota is not set"));
-    }
-    for time in 0..10u32 {
-        if let Err(fault) = links.put(0, time, cargo) {
-            let numbers = fault.numbers(rt.alloc())?;
-            eprintln!(rt;
-                "a link with a quota of 3 took {time} events and then refused with {numbers:?}"
-            )?;
-            return Ok(());
-        }
-    }
-    Err(anyhow!("the link never refused"))
+    links
+        .set(0, 3)
+        .map_err(|_| anyhow!("the quota is not set"))?;
+    let (time, fault) = (0..10u32)
+        .find_map(|time| Some((time, links.put(0, time, cargo).err()?)))
+        .context("the link never refused")?;
+    let numbers = fault.numbers(rt.alloc())?;
+    eprintln!(rt; "a link with a quota of 3 took {time} events and then refused with {numbers:?}")?;
+    Ok(())
 }
 
 fn worked_plan(rt: &HostRuntime) -> anyhow::Result<()> {
@@ -142,9 +108,7 @@ fn worked_plan(rt: &HostRuntime) -> anyhow::Result<()> {
     let mut first = slots(heap, 32)?;
     let mut second = slots(heap, 8)?;
     let mut third = slots(heap, 8)?;
-    let Some(cargo) = Vehicle::new(0, 0) else {
-        return Err(anyhow!("a vehicle is outside its limits"));
-    };
+    let cargo = Vehicle::new(0, 0).context("a vehicle is outside its limits")?;
     filled(rt, Ring::new(third.as_mut_slice(), worked::LINKS), cargo)?;
     compared(
         rt,
@@ -154,6 +118,5 @@ fn worked_plan(rt: &HostRuntime) -> anyhow::Result<()> {
 }
 
 fn main(rt: HostRuntime) -> anyhow::Result<()> {
-    let ended = worked_plan(&rt);
-    ended
+    worked_plan(&rt)
 }

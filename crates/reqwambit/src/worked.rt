@@ -1,5 +1,5 @@
 //! The worked plan: a signal, and an exit twenty seconds behind it.
-use anyhow::anyhow;
+use anyhow::Context;
 use exit::Exit;
 use model::link::Link;
 use model::opening::Opening;
@@ -10,7 +10,9 @@ use road::signal::settings::Settings;
 use road::vehicle::Vehicle;
 use std::alloc::Global;
 
-// How many links the plan has, and the delay of the one from the signal to the exit.
+// How many processes and links the plan has, and the delay of the one from the signal to the exit.
+pub const PROCESSES: usize = 2;
+
 pub const LINKS: usize = 2;
 
 pub const TO_EXIT: usize = 1;
@@ -29,10 +31,7 @@ pub fn plan(heap: Global) -> anyhow::Result<Plan> {
         delay: DELAY,
     };
     let links = vec![in heap; outside, to_exit]?;
-    match Plan::new(100, 2, links) {
-        Some(plan) => Ok(plan),
-        None => Err(anyhow!("the plan is outside its limits")),
-    }
+    Plan::new(100, PROCESSES, links).context("the plan is outside its limits")
 }
 
 pub fn processes(heap: Global) -> anyhow::Result<Vec<RoadKind>> {
@@ -44,26 +43,18 @@ pub fn processes(heap: Global) -> anyhow::Result<Vec<RoadKind>> {
         headway: 2,
         crossing: 5,
     };
-    let Some(signal) = Signal::new(settings) else {
-        return Err(anyhow!("a signal is outside its limits"));
-    };
-    let Some(exit) = Exit::new(1) else {
-        return Err(anyhow!("an exit is outside its limits"));
-    };
+    let signal = Signal::new(settings).context("a signal is outside its limits")?;
+    let exit = Exit::new(1).context("an exit is outside its limits")?;
     Ok(vec![in heap; RoadKind::Node(signal), RoadKind::Exit(exit)]?)
 }
 
 // Two vehicles that come together.
 pub fn opening(heap: Global) -> anyhow::Result<Vec<Opening<Vehicle>>> {
-    match Vehicle::new(0, 65_532) {
-        Some(cargo) => {
-            let event = Opening {
-                link: 0,
-                time: 10,
-                cargo,
-            };
-            Ok(vec![in heap; event, event]?)
-        }
-        None => Err(anyhow!("a vehicle is outside its limits")),
-    }
+    let cargo = Vehicle::new(0, 65_532).context("a vehicle is outside its limits")?;
+    let event = Opening {
+        link: 0,
+        time: 10,
+        cargo,
+    };
+    Ok(vec![in heap; event; 2]?)
 }
