@@ -1,4 +1,5 @@
-//! An exit, where cargo of any kind leaves a net, and the limits that the settings of all kinds share.
+//! An exit, where cargo of any kind leaves a net; a process that is a node of a family or an exit; and the limits that the
+//! settings of all kinds share.
 #![tactic(auto)]
 
 ghost use Rattle.std.specs.Prelude.{◌≡◌, true};
