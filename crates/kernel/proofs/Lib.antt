@@ -9,6 +9,7 @@ pub mod Handled
 pub mod Assembled
 pub mod Called
 pub mod Breaching
+pub mod Recorded
 pub mod Chains
 pub mod Compared
 pub mod FromOutside
