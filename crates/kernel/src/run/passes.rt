@@ -16,10 +16,7 @@ use model::refusal::Refusal;
 fn was_quiet<C: Cargo>(answer: Result<Stepped<C>, Refusal>) -> bool
     ensures { result ≡ quiet answer }
 {
-    match answer {
-        Ok(stepped) => stepped.taken.is_none() && stepped.nulls == 0,
-        Err(_) => true,
-    }
+    answer.map_or(true, |stepped| stepped.taken.is_none() && stepped.nulls == 0)
 }
 
 impl<C: Cargo, P: Process<C>, L: Links<C>> Run<C, P, L> {

@@ -122,13 +122,11 @@ impl<C: Cargo, P: Process<C>, L: Links<C>> Run<C, P, L> {
         }
         let state = self.processes[process];
         let lookahead = state.lookahead();
-        let taken = match self.safe(process) {
-            Some(safe) => {
-                self.take(process, state, safe)?;
-                Some(safe.event)
-            }
-            None => None,
-        };
+        let safe = self.safe(process);
+        let taken = safe.map(|safe| safe.event);
+        if let Some(safe) = safe {
+            self.take(process, state, safe)?;
+        }
         let nulls = self.close(process, lookahead);
         Ok(Stepped { taken, nulls })
     }
