@@ -1,5 +1,5 @@
 -- What a field of a record means, one by one.
-use Rattle.std.specs.Prelude.{ℕ, Bool, false, cond, ◌&&◌, List, length, Some, None, Ok, Err, Option, Result, ◌==◌, nat_eq, nat_le, nat_lt}
+use Rattle.std.specs.Prelude.{ℕ, zero, suc, ◌+◌, ◌-◌, Bool, false, cond, ◌&&◌, List, length, Some, None, Ok, Err, Option, Result, ◌==◌, nat_eq, nat_le, nat_lt}
 use Rattle.std.specs.Option.{ok_or}
 use Rattle.std.specs.Result.{result_map_both}
 use Rattle.model.specs.Lists.{at, is_none}
@@ -8,7 +8,7 @@ use Rattle.model.specs.declared.reading.Problem.{Problem}
 use Rattle.model.specs.declared.reading.Problem.TheVariants.{OutOfRange, UnknownWord, NotNext, Absent}
 use Rattle.text.specs.Decimal as decimal
 use Rattle.records.specs.Binding.{and_then}
-use Rattle.records.specs.Rows.{Cell, faulty}
+use Rattle.records.specs.Rows.{Cell, faulty, Row, cell}
 use Rattle.records.specs.declared.reading.kinds.PlannedLink.{PlannedLink}
 
 -- What the bytes stand for, or what is wrong where they stand for nothing.
@@ -38,6 +38,15 @@ next_of next c = tested NotNext (λ n. nat_eq n next) c
 -- An unused field is empty.
 abbrev pub unused : Cell → Result (Unit {0}) FieldFault
 unused c = cond (length c.bytes == 0) (Ok tt) (Err (faulty c OutOfRange))
+
+-- So many fields, from this one on, are unused: the first that is filled is the fault.
+abbrev pub unused_next : ℕ → ℕ → Row → Result (Unit {0}) FieldFault
+unused_next zero field r = Ok tt
+unused_next (suc n) field r = and_then (λ e. e) (unused (cell r field)) (λ _. unused_next n (field + 1) r)
+
+-- The fields from this one to the ninth are unused.
+abbrev pub unused_from : ℕ → Row → Result (Unit {0}) FieldFault
+unused_from field r = unused_next (10 - field) field r
 
 -- The number of one of so many processes.
 abbrev pub existing_of : ℕ → Cell → Result ℕ FieldFault

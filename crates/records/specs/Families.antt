@@ -14,7 +14,7 @@ use Rattle.model.specs.declared.reading.RecordFault.{RecordFault}
 use Rattle.model.specs.declared.reading.RecordFault.TheVariants.{InField}
 use Rattle.records.specs.Binding.{and_then}
 use Rattle.records.specs.Rows.{Row, kind_of, number_of, cell, faulty}
-use Rattle.records.specs.Cells.{made, ranged, unused, outside_of}
+use Rattle.records.specs.Cells.{made, ranged, unused_from, outside_of}
 use Rattle.records.specs.Kinds.{signal_record, switch_record, exit_record}
 use Rattle.records.specs.declared.reading.kinds.PlannedLink.{PlannedLink}
 use Rattle.records.specs.declared.reading.words.Word.{Word}
@@ -72,8 +72,5 @@ event_of loads links r =
     and_then InField (outside_of links (number_of r)) (λ k.
     and_then InField (ranged 0 1000000 (cell r 3)) (λ time.
     and_then (λ fault. fault) (loads r) (λ cargo.
-    and_then InField (unused (cell r 6)) (λ _.
-    and_then InField (unused (cell r 7)) (λ _.
-    and_then InField (unused (cell r 8)) (λ _.
-    and_then InField (unused (cell r 9)) (λ _.
-    Ok (record { link = k; time = time; cargo = cargo }))))))))
+    and_then InField (unused_from 6 r) (λ _.
+    Ok (record { link = k; time = time; cargo = cargo })))))

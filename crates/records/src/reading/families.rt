@@ -80,9 +80,6 @@ pub fn read_event<C: Copy, P: ProcessKind<C>>(
     let link = fields.number().outside_link(links)?;
     let time = fields.cell(3).in_range(0, 1_000_000)?;
     let cargo = P::read_cargo(fields)?;
-    fields.cell(6).unused()?;
-    fields.cell(7).unused()?;
-    fields.cell(8).unused()?;
-    fields.cell(9).unused()?;
+    fields.unused_from(6)?;
     Ok(Opening { link, time, cargo })
 }

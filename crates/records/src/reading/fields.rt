@@ -2,6 +2,7 @@
 ghost use Rattle.std.specs.Prelude.{◌≡◌, ◌≤◌, length};
 ghost use Rattle.text.specs.Fields.{cut_line};
 ghost use Rattle.records.specs.Rows.{kind_of, number_of, cell, row_cut};
+ghost use Rattle.records.specs.Cells.{unused_from};
 ghost use Rattle.records.specs.Families.{misplaced_word};
 
 use super::cell::Cell;
@@ -38,10 +39,9 @@ impl<'a> Fields<'a> {
         let count = match cut_fields(bytes, &mut fields) {
             Ok(count) => count,
             Err(malformed) => {
-                let field = malformed.field as u32;
-                return Err(RecordFault::InField(FieldFault {
+                return Err(RecordFault::from(FieldFault {
                     line,
-                    field,
+                    field: malformed.field as u32,
                     problem: Problem::Malformed,
                 }));
             }
@@ -93,10 +93,21 @@ impl<'a> Fields<'a> {
         }
     }
 
+    // The fields from this one to the ninth are unused.
+    pub fn unused_from(&self, first: u32) -> Result<(), FieldFault>
+        requires { 3 ≤ first }
+        ensures { result ≡ unused_from first self.now }
+    {
+        for field in first..10 {
+            self.cell(field).unused()?;
+        }
+        Ok(())
+    }
+
     // Why a record is refused whose word is out of order or of the other family.
     pub fn misplaced(&self) -> RecordFault
         ensures { result ≡ misplaced_word self.now }
     {
-        RecordFault::InField(self.kind().fault(Problem::UnknownWord))
+        RecordFault::from(self.kind().fault(Problem::UnknownWord))
     }
 }

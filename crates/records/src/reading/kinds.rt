@@ -34,10 +34,7 @@ pub fn read_net(fields: &Fields) -> Result<Net, RecordFault>
     let horizon = fields.cell(3).in_range(1, 1_000_000)?;
     let places = fields.cell(4).in_range(4, 1_024)?;
     let store = fields.cell(5).word::<Store>()?;
-    fields.cell(6).unused()?;
-    fields.cell(7).unused()?;
-    fields.cell(8).unused()?;
-    fields.cell(9).unused()?;
+    fields.unused_from(6)?;
     Ok(Net {
         family,
         horizon,
@@ -56,7 +53,7 @@ pub fn read_signal(next: usize, fields: &Fields) -> Result<Signal, RecordFault>
     let offset = fields.cell(6).in_range(0, cycle.saturating_sub(1))?;
     let headway = fields.cell(7).in_range(1, 10_000)?;
     let crossing = fields.cell(8).in_range(1, 10_000)?;
-    fields.cell(9).unused()?;
+    fields.unused_from(9)?;
     let settings = Settings {
         lookahead,
         cycle,
@@ -74,11 +71,7 @@ pub fn read_switch(next: usize, fields: &Fields) -> Result<Switch, RecordFault>
     fields.number().next(next)?;
     let lookahead = fields.cell(3).in_range(1, 10_000)?;
     let service = fields.cell(4).in_range(1, 10_000)?;
-    fields.cell(5).unused()?;
-    fields.cell(6).unused()?;
-    fields.cell(7).unused()?;
-    fields.cell(8).unused()?;
-    fields.cell(9).unused()?;
+    fields.unused_from(5)?;
     Ok(fields.cell(3).made(Switch::new(lookahead, service))?)
 }
 
@@ -87,12 +80,7 @@ pub fn read_exit(next: usize, fields: &Fields) -> Result<Exit, RecordFault>
 {
     fields.number().next(next)?;
     let lookahead = fields.cell(3).in_range(1, 10_000)?;
-    fields.cell(4).unused()?;
-    fields.cell(5).unused()?;
-    fields.cell(6).unused()?;
-    fields.cell(7).unused()?;
-    fields.cell(8).unused()?;
-    fields.cell(9).unused()?;
+    fields.unused_from(4)?;
     Ok(fields.cell(3).made(Exit::new(lookahead))?)
 }
 
@@ -105,9 +93,7 @@ pub fn read_link(next: usize, processes: usize, fields: &Fields) -> Result<Plann
     let to = fields.cell(4).process(processes)?;
     let delay = fields.cell(5).in_range(0, 10_000)?;
     let quota = fields.cell(6).quota()?;
-    fields.cell(7).unused()?;
-    fields.cell(8).unused()?;
-    fields.cell(9).unused()?;
+    fields.unused_from(7)?;
     Ok(PlannedLink {
         link: Link { from, to, delay },
         quota,

@@ -4,8 +4,8 @@ use Rattle.records.proofs.FewFields.{few_fields, nine_held}
 use Rattle.records.proofs.Nine.{nine_cut}
 use Rattle.records.proofs.reading.fields.Fields.of_line.Goals as goal
 
-pub overflow_cast-field : goal.overflow_cast-field
-overflow_cast-field c = omega (arith, c.in-Err.ensures.answer.1, few_fields c.in-Err.ensures.grammar.parted, c.requires)
+pub overflow_cast-malformed : goal.overflow_cast-malformed
+overflow_cast-malformed c = omega (arith, c.in-Err.ensures.answer.1, few_fields c.in-Err.ensures.grammar.parted, c.requires)
 
 pub returns : goal.returns
 returns c =
