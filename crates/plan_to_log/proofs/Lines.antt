@@ -1,10 +1,10 @@
--- The lines of a history, and one history more.
-use Rattle.std.proofs.Common.{◌≡◌, ◌==◌, ℕ, ◌+◌, cond, List, [], ◌∷◌, ◌++◌, filter, flat_map, refl, sym, ap, ◌∙◌, append_assoc, add-one}
+-- The lines of a history.
+use Rattle.std.proofs.Common.{◌≡◌, ◌==◌, ℕ, ◌+◌, cond, List, [], ◌∷◌, ◌++◌, filter, flat_map, refl, ap, ◌∙◌}
 use Rattle.std.specs.List.{enumerate_from}
 use Rattle.model.specs.declared.record.Record.{Record}
 use Rattle.simulation.specs.View.{history}
-use Rattle.records.specs.LogText.{heading, number_line, line_numbers}
-use Rattle.plan_to_log.specs.Histories.{lines_from, histories, log_text}
+use Rattle.records.specs.LogText.{number_line, line_numbers}
+use Rattle.plan_to_log.specs.Histories.{lines_from}
 
 -- The line of a record that stands at a place.
 abbrev pub numbered : ℕ × Record → List ℕ
@@ -23,7 +23,3 @@ lines_numbered n (r ∷ rs) = ap (λ l. number_line (line_numbers r n) ++ l) (li
 -- So these are the lines of a history.
 pub lines_of_history : (p : ℕ) (log : List Record) → flat_map numbered (enumerate_from 0 (filter (λ r. r.process == p) log)) ≡ lines_from 0 (history p log)
 lines_of_history p log = lines_numbered 0 (filter (λ r. r.process == p) log) ∙ ap (lines_from 0) (history_kept p log)
-
--- The history of one process more.
-pub histories_next : (p : ℕ) (log : List Record) → log_text (p + 1) log ≡ log_text p log ++ lines_from 0 (history p log)
-histories_next p log = rw add-one (sym (append_assoc heading (histories p log) (lines_from 0 (history p log))))

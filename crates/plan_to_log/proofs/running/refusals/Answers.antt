@@ -1,7 +1,7 @@
-use Rattle.std.proofs.Common.{vec_items, refl, ap, ◌∙◌, arith}
+use Rattle.std.proofs.Common.{vec_items, ap, ◌∙◌}
 use Rattle.simulation.specs.Programs.{program_of}
 use Rattle.kernel.specs.OfRun.{view_of}
-use Rattle.plan_to_log.proofs.Refused.{none_yet, all_stepped, passes_on, goes_on, stands_there}
+use Rattle.plan_to_log.proofs.Refused.{none_yet, passes_on, goes_on, stands_there}
 use Rattle.plan_to_log.proofs.running.refusals.Goals as goal
 use Rattle.plan_to_log.proofs.running.refusals.Goals.{in-Err+in_ok-push, in_default-step}
 
@@ -11,7 +11,7 @@ loop-process-init g c =
 
 pub loop-process-preserved-in_default : goal.loop-process-preserved-in_default
 loop-process-preserved-in_default g c =
-    passes_on (program_of g.C.Cargo g.P.Process) (view_of g.L.Links.meaning c.args.run.now) refl refl c.loop-process.invariant c.in_default.ensures.outcome.0
+    passes_on (program_of g.C.Cargo g.P.Process) (view_of g.L.Links.meaning c.args.run.now) c.loop-process.invariant c.in_default.ensures.outcome.0
 
 pub loop-process-preserved : goal.loop-process-preserved
 loop-process-preserved g c =
@@ -19,12 +19,8 @@ loop-process-preserved g c =
     let first = view_of g.L.Links.meaning c.args.run.now in
     elim c.match-step.branch [
       | in-Err+in_ok-push w ↦
-          stands_there program first (ap vec_items w.standing-is ∙ w.in_ok-push.ensures.items) refl
+          stands_there program first (ap vec_items w.standing-is ∙ w.in_ok-push.ensures.items)
           c.loop-process.invariant c.in-Ok.ensures.outcome.0 w.in-Err.ensures.called.outcome
       | in_default-step w ↦
-          goes_on program first (ap vec_items w.standing-is) refl c.loop-process.invariant w.in_default-step.ensures.called.outcome
+          goes_on program first (ap vec_items w.standing-is) c.loop-process.invariant w.in_default-step.ensures.called.outcome
     ]
-
-pub returns : goal.returns
-returns g c =
-    all_stepped (program_of g.C.Cargo g.P.Process) (view_of g.L.Links.meaning c.args.run.now) (omega arith) c.loop-process.invariant
