@@ -6,9 +6,9 @@ use model::plan::Plan;
 mod asked;
 mod made;
 
-// The in-links and the out-links of a process.
+// The links of a process, by in-port and by out-port.
 #[derive(Drop)]
-pub(crate) struct Ports {
+pub(crate) struct PortLists {
     ins: Vec<usize>,
     outs: Vec<usize>,
 }
@@ -16,6 +16,6 @@ pub(crate) struct Ports {
 #[derive(Drop)]
 pub(crate) struct Routes {
     plan: Plan,
-    ports: Vec<Ports>,
+    ports: Vec<PortLists>,
     ghost wired: { Wired plan ports.items },
 }

@@ -11,7 +11,6 @@ use crate::reading::Reading;
 use crate::running::run_net;
 use crate::stack::Planned;
 use model::cargo::Cargo;
-use model::event::Event;
 use model::link::Link;
 use model::links::Links;
 use model::plan::Plan;
@@ -54,17 +53,6 @@ fn run_over<C: Cargo, P: Process<C>, S: Links<C> + Drop>(
     run_net(heap, plan, processes, opening.as_slice(), planned.stacked())
 }
 
-// So many slots for a ring, with an event in each that is never read.
-fn ring_slots<C: Cargo>(heap: Global, count: usize, blank: C) -> Result<Vec<Event<C>>, AllocError>
-    ensures { IfOk result (λ v. length v.items ≡ count) }
-{
-    let never_read = Event {
-        time: 0,
-        cargo: blank,
-    };
-    vec![in heap; never_read; count]
-}
-
 // What becomes of a plan over a ring.
 fn run_over_ring<C: Cargo, P: Process<C>>(
     heap: Global,
@@ -74,8 +62,8 @@ fn run_over_ring<C: Cargo, P: Process<C>>(
     ensures { IfOk result (λ o. Ran (program_of C.Cargo P.Process) (reading_net reading) (reading_over reading (opened (length reading.links.items) (length reading.links.items * reading.net.places))) o.text.items o.ending) }
 {
     let links = reading.links.len();
-    let mut slots = ring_slots(heap, links * reading.net.places as usize, blank)?;
-    run_over(heap, reading, Ring::new(slots.as_mut_slice(), links))
+    let mut lent = slots::blank(heap, links * reading.net.places as usize, blank)?;
+    run_over(heap, reading, Ring::new(lent.as_mut_slice(), links))
 }
 
 // What becomes of a plan over its store, for now a ring.

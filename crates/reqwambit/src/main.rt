@@ -25,12 +25,6 @@ const LOG_SIZE: usize = 4_096;
 // No more passes than this are made.
 const MOST_PASSES: u32 = 1_000_000;
 
-// Slots for a store, with an event that is never read.
-fn slots(heap: Global, count: usize) -> anyhow::Result<Vec<Event<Vehicle>>> {
-    let cargo = Vehicle::new(0, 0).context("a vehicle is outside its limits")?;
-    Ok(vec![in heap; Event { time: 0, cargo }; count]?)
-}
-
 // The worked plan over these links.
 fn prepared<L: Links<Vehicle> + Drop>(
     heap: Global,
@@ -105,10 +99,10 @@ fn filled<S: Links<Vehicle> + Drop>(
 
 fn worked_plan(rt: &HostRuntime) -> anyhow::Result<()> {
     let heap = rt.alloc();
-    let mut first = slots(heap, 32)?;
-    let mut second = slots(heap, 8)?;
-    let mut third = slots(heap, 8)?;
     let cargo = Vehicle::new(0, 0).context("a vehicle is outside its limits")?;
+    let mut first = slots::blank(heap, 32, cargo)?;
+    let mut second = slots::blank(heap, 8, cargo)?;
+    let mut third = slots::blank(heap, 8, cargo)?;
     filled(rt, Ring::new(third.as_mut_slice(), worked::LINKS), cargo)?;
     compared(
         rt,

@@ -33,7 +33,7 @@ pub type Junction<S> = Run<Vehicle, RoadKind, Stack<S>>;
 // Slots for a store, with an event that is never read.
 pub fn slots(heap: Global, count: usize) -> Result<Vec<Event<Vehicle>>, Fail> {
     let cargo = Vehicle::new(0, 0).ok_or_else(|| Fail::new("a vehicle is outside its limits"))?;
-    Ok(vec![in heap; Event { time: 0, cargo }; count]?)
+    Ok(slots::blank(heap, count, cargo)?)
 }
 
 fn plan(heap: Global) -> Result<Plan, Fail> {
