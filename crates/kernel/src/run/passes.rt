@@ -16,7 +16,10 @@ use model::refusal::Refusal;
 fn was_quiet<C: Cargo>(answer: Result<Stepped<C>, Refusal>) -> bool
     ensures { result ≡ quiet answer }
 {
-    answer.map_or(true, |stepped| stepped.taken.is_none() && stepped.nulls == 0)
+    answer.map_or(
+        true,
+        |stepped| stepped.taken.is_none() && stepped.nulls == 0,
+    )
 }
 
 impl<C: Cargo, P: Process<C>, L: Links<C>> Run<C, P, L> {
