@@ -1,23 +1,24 @@
 -- Bytes put where they fit, and the length of a line.
-use Rattle.std.proofs.Common.{◌≡◌, ℕ, ◌+◌, ◌^◌, ◌<◌, ◌≤◌, true, ◌&&◌, ltb, List, ◌++◌, length, drop, is_some, Some, None, Ok, Option, refl, ap, ◌∙◌, subst, append_assoc, arith, length-append}
+use Rattle.std.proofs.Common.{◌≡◌, ℕ, ◌+◌, ◌^◌, ◌<◌, ◌≤◌, true, ◌&&◌, ltb, List, ◌++◌, length, drop, is_some, Some, None, Ok, Option, refl, ap, ◌∙◌, append_assoc, arith, length-append}
 use Rattle.std.proofs.lemmas.Bool.{and_parts, ltb-true}
 use Rattle.model.specs.declared.record.Record.{Record}
 use Rattle.text.specs.Decimal.{digits}
-use Rattle.text.specs.Writing.{Placed, Put}
+use Rattle.text.specs.Writing.{Placed, Puts}
 use Rattle.text.proofs.TenthPart.{few_digits}
 use Rattle.records.specs.declared.log.LogLine.{LogLine}
 use Rattle.records.specs.Limits.{line_within}
 use Rattle.records.specs.LogText.{comma, line_end, bytes_of, Written}
 
 -- Bytes that fit are put.
-pub fits : (before bytes after : List ℕ) (at : ℕ) (r : Option ℕ)
-    → Put before at bytes r after → at + length bytes ≤ length before → is_some r ≡ true
-fits before bytes after at (Some end) p l = refl
-fits before bytes after at None p l = absurd (omega (arith, p.short))
+pub fits : (before bytes after : List ℕ) (at end : ℕ) (r : Option (Unit {0}))
+    → Puts before at bytes r end after → at + length bytes ≤ length before → is_some r ≡ true
+fits before bytes after at end (Some done) p l = refl
+fits before bytes after at end None p l = absurd (omega (arith, p.0.short))
 
-pub placed_at : (before bytes after : List ℕ) (at : ℕ) (r : Option ℕ) (end : ℕ)
-    → Put before at bytes r after → r ≡ Some end → Placed before at bytes end after
-placed_at before bytes after at r end p e = subst (λ (x : Option ℕ). Put before at bytes x after) e p
+pub placed : (before bytes after : List ℕ) (at end : ℕ) (r : Option (Unit {0}))
+    → Puts before at bytes r end after → at + length bytes ≤ length before → Placed before at bytes end after
+placed before bytes after at end (Some done) p l = p
+placed before bytes after at end None p l = absurd (omega (arith, p.0.short))
 
 -- How long the parts of a line are at most: 32 bytes in all.
 pub record Short (e : Record) (n : ℕ) : Type 0 where
@@ -49,13 +50,13 @@ short_code code small =
     omega (arith, length-append (digits code) line_end, few_digits 10 code (omega arith) (omega arith) (omega arith))
 
 -- The five parts, one behind another, are the line.
-pub written : (before after : List ℕ) (end : ℕ) (l : LogLine) (time code : ℕ) → 32 ≤ length before
-    → time ≡ l.event.time → code ≡ l.event.code
+pub written : (before after left : List ℕ) (end : ℕ) (l : LogLine) (time code : ℕ) → 32 ≤ length before
+    → time ≡ l.event.time → code ≡ l.event.code → left ≡ after
     → Placed before 0
     (((((digits l.event.process ++ comma) ++ (digits l.n ++ comma)) ++ (digits time ++ comma))
     ++ (digits l.event.link ++ comma)) ++ (digits code ++ line_end)) end after
-    → Written before l (Ok end) after
-written before after end l time code long t k p =
+    → Written before l (Ok end) left
+written before after left end l time code long t k e p =
     let same : (((((digits l.event.process ++ comma) ++ (digits l.n ++ comma)) ++ (digits time ++ comma))
     ++ (digits l.event.link ++ comma)) ++ (digits code ++ line_end)) ≡ bytes_of l = simp (append_assoc, t, k) in
-    ((λ few. omega arith), omega (arith, p.ends, ap length same), p.holds ∙ ap (λ (x : List ℕ). x ++ drop end before) same)
+    ((λ few. omega arith), omega (arith, p.ends, ap length same), e ∙ p.holds ∙ ap (λ (x : List ℕ). x ++ drop end before) same)

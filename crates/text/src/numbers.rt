@@ -2,9 +2,8 @@
 ghost use Rattle.std.specs.Prelude.{◌≡◌, ◌+◌, ◌≤◌, true, length, is_ok, vec_len, vec_capacity};
 ghost use Rattle.std.specs.Str.{bytes_eq};
 ghost use Rattle.text.specs.Decimal.{ReadsBack, digits, number_of, unpadded};
-ghost use Rattle.text.specs.Writing.{Appends, Put};
+ghost use Rattle.text.specs.Writing.{Appends};
 
-use crate::bytes::put_bytes;
 use arrayvec::ArrayVec;
 use std::alloc::AllocError;
 
@@ -39,14 +38,6 @@ pub fn spells(bytes: &[u8], n: u32) -> bool
     ensures law { ReadsBack }
 {
     read_number(bytes) == Some(n)
-}
-
-// Writes the digits of n into the buffer from `at` on, and answers where they end.
-// Where they do not fit, the buffer stays as it is.
-pub fn put_number(buf: &mut [u8], at: usize, n: u64) -> Option<usize>
-    ensures { Put buf.old at (digits n) result buf.new }
-{
-    put_bytes(buf, at, &digits_of(n))
 }
 
 // Appends the digits of n. Without memory for them, the list stays as it is.

@@ -1,7 +1,7 @@
 // A caller's buffer, written piece by piece.
-ghost use Rattle.std.specs.Prelude.{◌≡◌, ◌+◌, ◌≤◌, length};
+ghost use Rattle.std.specs.Prelude.{◌≡◌};
 ghost use Rattle.text.specs.Decimal.{digits};
-ghost use Rattle.text.specs.Writing.{Placed};
+ghost use Rattle.text.specs.Writing.{Puts};
 
 use crate::numbers::digits_of;
 
@@ -13,23 +13,25 @@ pub struct Slate<'a> {
 }
 
 impl Slate<'_> {
-    // Writes the bytes behind what is written.
-    pub fn put_bytes(&mut self, bytes: &[u8])
-        requires { self.old.end + length bytes.now ≤ length self.old.buf.now }
+    // Writes the bytes behind what is written. Where they do not fit, the slate stays as it is.
+    pub fn put_bytes(&mut self, bytes: &[u8]) -> Option<()>
         ensures same { self.new.buf.ghost_name ≡ self.old.buf.ghost_name }
-        ensures puts { Placed self.old.buf.now self.old.end bytes.now self.new.end self.new.buf.now }
+        ensures puts { Puts self.old.buf.now self.old.end bytes.now result self.new.end self.new.buf.now }
     {
-        let end = self.end + bytes.len();
+        let end = self.end.checked_add(bytes.len())?;
+        if end > self.buf.len() {
+            return None;
+        }
         self.buf[self.end..end].copy_from_slice(bytes);
         self.end = end;
+        Some(())
     }
 
-    // Writes the digits of n behind what is written.
-    pub fn put_number(&mut self, n: u64)
-        requires { self.old.end + length (digits n) ≤ length self.old.buf.now }
+    // Writes the digits of n behind what is written. Where they do not fit, the slate stays as it is.
+    pub fn put_number(&mut self, n: u64) -> Option<()>
         ensures same { self.new.buf.ghost_name ≡ self.old.buf.ghost_name }
-        ensures puts { Placed self.old.buf.now self.old.end (digits n) self.new.end self.new.buf.now }
+        ensures puts { Puts self.old.buf.now self.old.end (digits n) result self.new.end self.new.buf.now }
     {
-        self.put_bytes(&digits_of(n));
+        self.put_bytes(&digits_of(n))
     }
 }

@@ -7,19 +7,20 @@ ghost use Rattle.records.specs.LogText.{line_of, Written};
 use super::LogLine;
 use model::reading::LineFault;
 use model::record::Record;
-use text::bytes::put_bytes;
-use text::numbers::put_number;
+use text::slate::Slate;
 
 // No line is longer.
 const LONGEST: usize = 32;
 
-// Writes a number and what stands behind it, and answers where that ends.
-fn put_part(buf: &mut [u8], at: usize, n: u64, behind: &[u8]) -> usize
-    requires { at + length (digits n ++ behind.now) ≤ length buf.old }
-    ensures { Placed buf.old at (digits n ++ behind.now) result buf.new }
+// Writes a number and what stands behind it.
+fn put_part(slate: &mut Slate, n: u64, behind: &[u8])
+    requires { slate.old.end + length (digits n ++ behind.now) ≤ length slate.old.buf.now }
+    ensures same { slate.new.buf.ghost_name ≡ slate.old.buf.ghost_name }
+    ensures puts { Placed slate.old.buf.now slate.old.end (digits n ++ behind.now) slate.new.end slate.new.buf.now }
+    ensures long { length slate.new.buf.now ≡ length slate.old.buf.now }
 {
-    let end = put_number(buf, at, n).unwrap();
-    put_bytes(buf, end, behind).unwrap()
+    slate.put_number(n).unwrap();
+    slate.put_bytes(behind).unwrap();
 }
 
 impl LogLine {
@@ -41,10 +42,12 @@ impl LogLine {
         if buf.len() < LONGEST {
             return Err(LineFault::ShortBuffer);
         }
-        let process = put_part(buf, 0, self.event.process as u64, b",");
-        let n = put_part(buf, process, self.n as u64, b",");
-        let time = put_part(buf, n, u64::from(self.event.time), b",");
-        let link = put_part(buf, time, self.event.link as u64, b",");
-        Ok(put_part(buf, link, u64::from(self.event.code), b"\r\n"))
+        let mut slate = Slate { buf, end: 0 };
+        put_part(&mut slate, self.event.process as u64, b",");
+        put_part(&mut slate, self.n as u64, b",");
+        put_part(&mut slate, u64::from(self.event.time), b",");
+        put_part(&mut slate, self.event.link as u64, b",");
+        put_part(&mut slate, u64::from(self.event.code), b"\r\n");
+        Ok(slate.end)
     }
 }
