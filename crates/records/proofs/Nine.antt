@@ -1,6 +1,5 @@
 -- The nine fields of a record, as a slice pattern binds them.
 use Rattle.std.proofs.Common.{◌≡◌, ℕ, cond, List, [], ◌∷◌, map, length, get_or, Ok, Err, Result, sym, refl, ap, ◌∙◌, Bor, eq-eqb, arith}
-use lib.ListN.{length-map}
 use Rattle.model.specs.declared.reading.RecordFault.{RecordFault}
 use Rattle.model.specs.declared.reading.RecordFault.TheVariants.{NotNineFields}
 use Rattle.text.specs.Fields.{Cut, whole, found}
@@ -21,7 +20,8 @@ bound line xs = record {
   rest = map (λ x. x.now) (field xs 2 ∷ field xs 3 ∷ field xs 4 ∷ field xs 5 ∷ field xs 6 ∷ field xs 7 ∷ field xs 8 ∷ []);
 }
 
-nine : (line : ℕ) (xs : List (Bor (List ℕ))) → length xs ≡ 9 → bound line xs ≡ row_of line (map (λ x. x.now) xs)
+-- They are the record that a list of nine makes.
+pub nine : (line : ℕ) (xs : List (Bor (List ℕ))) → length xs ≡ 9 → bound line xs ≡ row_of line (map (λ x. x.now) xs)
 nine line [] n = absurd (omega arith)
 nine line (a ∷ []) n = absurd (omega arith)
 nine line (a ∷ b ∷ []) n = absurd (omega arith)
@@ -35,8 +35,8 @@ nine line (a ∷ b ∷ c ∷ d ∷ e ∷ f ∷ g ∷ h ∷ i ∷ []) n = refl
 nine line (a ∷ b ∷ c ∷ d ∷ e ∷ f ∷ g ∷ h ∷ i ∷ j ∷ more) n = absurd (omega arith)
 
 -- Nine fields that were cut are the record.
-pub nine_cut : (line : ℕ) (k : Cut) (xs : List (Bor (List ℕ))) → k ≡ whole (found k) → length (found k) ≡ 9
-    → map (λ x. x.now) xs ≡ found k → ◌≡◌ {A = Result Row RecordFault} (Ok (bound line xs)) (row_cut line k)
-nine_cut line k xs is n e =
-    ap Ok (nine line xs (sym (length-map xs (λ x. x.now)) ∙ ap length e ∙ n) ∙ ap (row_of line) e)
+pub nine_cut : (line : ℕ) (k : Cut) (fields : List (List ℕ)) → k ≡ whole (found k) → length (found k) ≡ 9 → fields ≡ found k
+    → ◌≡◌ {A = Result Row RecordFault} (Ok (row_of line fields)) (row_cut line k)
+nine_cut line k fields is n e =
+    ap (λ x. Ok (row_of line x)) e
     ∙ sym (ap (row_cut line) is ∙ ap (λ b. cond b (Ok (row_of line (found k))) (Err (NotNineFields line))) (eq-eqb (length (found k)) 9 n))

@@ -1,7 +1,7 @@
 //! The nine fields of a record.
-ghost use Rattle.std.specs.Prelude.{◌≡◌, ◌≤◌, length};
+ghost use Rattle.std.specs.Prelude.{◌≡◌, ◌≤◌, length, map};
 ghost use Rattle.text.specs.Fields.{cut_line};
-ghost use Rattle.records.specs.Rows.{kind_of, number_of, cell, row_cut};
+ghost use Rattle.records.specs.Rows.{kind_of, number_of, cell, row_of, row_cut};
 ghost use Rattle.records.specs.Cells.{unused_from};
 ghost use Rattle.records.specs.Families.{misplaced_word};
 
@@ -29,8 +29,21 @@ impl<'a> Model for Fields<'a> {
 }
 
 impl<'a> Fields<'a> {
+    // The record of nine fields.
+    pub fn new(line: u32, fields: [&'a [u8]; 9]) -> Fields<'a>
+        ensures { result ≡ row_of line (map (λ x. x.now) fields.entry) }
+    {
+        let [kind, number, a, b, c, d, e, f, g] = fields;
+        Fields {
+            line,
+            kind,
+            number,
+            rest: [a, b, c, d, e, f, g],
+        }
+    }
+
     // Cuts a line into its fields, of which there must be nine.
-    pub fn of_line(line: u32, bytes: &'a [u8]) -> Result<Fields<'a>, RecordFault>
+    pub(super) fn of_line(line: u32, bytes: &'a [u8]) -> Result<Fields<'a>, RecordFault>
         requires { length bytes.now ≤ 65536 }
         ensures { result ≡ row_cut line (cut_line bytes.now) }
     {
@@ -49,13 +62,7 @@ impl<'a> Fields<'a> {
         if count != 9 {
             return Err(RecordFault::NotNineFields(line));
         }
-        let [kind, number, a, b, c, d, e, f, g] = fields;
-        Ok(Fields {
-            line,
-            kind,
-            number,
-            rest: [a, b, c, d, e, f, g],
-        })
+        Ok(Fields::new(line, fields))
     }
 
     // Field 1: the word that names the kind.
@@ -81,7 +88,7 @@ impl<'a> Fields<'a> {
     }
 
     // A field from 3 on.
-    pub fn cell(&self, field: u32) -> Cell<'a>
+    pub(super) fn cell(&self, field: u32) -> Cell<'a>
         requires first { 3 ≤ field }
         requires last { field ≤ 9 }
         ensures { result ≡ cell self.now field }
@@ -94,7 +101,7 @@ impl<'a> Fields<'a> {
     }
 
     // The fields from this one to the ninth are unused.
-    pub fn unused_from(&self, first: u32) -> Result<(), FieldFault>
+    pub(super) fn unused_from(&self, first: u32) -> Result<(), FieldFault>
         requires { 3 ≤ first }
         ensures { result ≡ unused_from first self.now }
     {
