@@ -1,7 +1,8 @@
 -- What differs between the families: their kinds of process, and their cargo.
-use Rattle.std.specs.Prelude.{ℕ, List, Ok, Err, Result}
+use Rattle.std.specs.Prelude.{ℕ, Bool, true, false, cond, List, Ok, Err, Result}
 use Rattle.std.specs.Result.{result_map_both}
 use Rattle.road.specs.Kinds.{RoadProcess}
+use Rattle.exit.specs.declared.kind.Kind.{Kind}
 use Rattle.exit.specs.declared.kind.Kind.TheVariants as kind
 use Rattle.road.specs.declared.vehicle.Vehicle.{Vehicle}
 use Rattle.road.specs.Vehicles.{vehicle_of}
@@ -18,7 +19,7 @@ use Rattle.records.specs.Cells.{made, ranged, unused_from, outside_of}
 use Rattle.records.specs.Kinds.{signal_record, switch_record, exit_record}
 use Rattle.records.specs.declared.reading.kinds.PlannedLink.{PlannedLink}
 use Rattle.records.specs.declared.reading.words.Word.{Word}
-use Rattle.records.specs.declared.reading.words.Word.TheVariants.{Net, Signal, Switch, Exit, Link, Event}
+use Rattle.records.specs.declared.reading.words.Word.TheVariants.{Signal, Switch, Exit}
 
 -- How a family reads a process of its word as the next, and the cargo of an event.
 abbrev pub ProcessReading : Type 0 → Type 0
@@ -34,14 +35,28 @@ misplaced_word r = InField (faulty (kind_of r) UnknownWord)
 abbrev pub misplaced : {A : Type 0} → Row → Result A RecordFault
 misplaced r = Err (misplaced_word r)
 
+-- The processes of a family: exits, and nodes of a word of their own.
+abbrev pub process_of : {J : Type 0} → (Word → Bool) → (ℕ → Row → Result J RecordFault) → ProcessReading (Kind J)
+process_of named recorded next Exit r = result_map_both kind.Exit (λ e. e) (exit_record next r)
+process_of named recorded next w r = cond (named w) (result_map_both kind.Node (λ e. e) (recorded next r)) (misplaced r)
+
+-- Whether a word is that of a signal.
+abbrev pub is_signal : Word → Bool
+is_signal Signal = true
+is_signal w = false
+
+-- Whether a word is that of a switch.
+abbrev pub is_switch : Word → Bool
+is_switch Switch = true
+is_switch w = false
+
 -- Road: signals and exits.
 abbrev pub road_process : ProcessReading RoadProcess
-road_process next Net r = misplaced r
-road_process next Signal r = result_map_both kind.Node (λ e. e) (signal_record next r)
-road_process next Switch r = misplaced r
-road_process next Exit r = result_map_both kind.Exit (λ e. e) (exit_record next r)
-road_process next Link r = misplaced r
-road_process next Event r = misplaced r
+road_process = process_of is_signal signal_record
+
+-- Switch: switches and exits.
+abbrev pub switch_process : ProcessReading PacketProcess
+switch_process = process_of is_switch switch_record
 
 -- Vehicles: class, route. Two fields in range make one, so the last fault is for show only.
 abbrev pub road_cargo : CargoReading Vehicle
@@ -49,15 +64,6 @@ road_cargo r =
     and_then InField (ranged 0 3 (cell r 4)) (λ class.
     and_then InField (ranged 0 65535 (cell r 5)) (λ route.
     and_then InField (made OutOfRange (cell r 4) (vehicle_of class route)) Ok))
-
--- Switch: switches and exits.
-abbrev pub switch_process : ProcessReading PacketProcess
-switch_process next Net r = misplaced r
-switch_process next Signal r = misplaced r
-switch_process next Switch r = result_map_both kind.Node (λ e. e) (switch_record next r)
-switch_process next Exit r = result_map_both kind.Exit (λ e. e) (exit_record next r)
-switch_process next Link r = misplaced r
-switch_process next Event r = misplaced r
 
 -- Frames: destination, length. Two fields in range make one, so the last fault is for show only.
 abbrev pub switch_cargo : CargoReading Frame
