@@ -1,5 +1,5 @@
 -- The bytes of a log and of a refusal: 13 is CR, 10 is LF, 44 is the comma.
-use Rattle.std.specs.Prelude.{◌≡◌, ℕ, ◌<◌, List, [], ◌∷◌, ◌++◌, length, drop, Ok, Err, is_ok, if◌then◌else◌, codes, Option, Result}
+use Rattle.std.specs.Prelude.{◌≡◌, ℕ, ◌<◌, List, [], ◌∷◌, ◌++◌, length, drop, Ok, Err, codes, Option, Result}
 use Rattle.exit.specs.Limits.{made_if}
 use Rattle.model.specs.declared.record.Record.{Record}
 use Rattle.model.specs.declared.reading.LineFault.{LineFault}
@@ -7,10 +7,6 @@ use Rattle.model.specs.declared.reading.LineFault.TheVariants.{ShortBuffer}
 use Rattle.text.specs.Decimal.{digits}
 use Rattle.records.specs.Limits.{line_within}
 use Rattle.records.specs.declared.log.LogLine.{LogLine}
-
--- Bytes appended to a text. Without memory for them, the text stays as it is.
-abbrev pub Appends : {E : Type 0} → List ℕ → List ℕ → Result (Unit {0}) E → List ℕ → Type 0
-Appends before bytes result after = after ≡ (if is_ok result then before ++ bytes else before)
 
 -- Every line ends with CR LF.
 abbrev pub line_end : List ℕ

@@ -1,6 +1,7 @@
 //! Lines appended to a text.
 ghost use Rattle.std.specs.Prelude.{◌≡◌, IfOk};
-ghost use Rattle.records.specs.LogText.{Appends, heading, line_numbers, number_line};
+ghost use Rattle.text.specs.Writing.{Appends};
+ghost use Rattle.records.specs.LogText.{heading, line_numbers, number_line};
 
 use model::numbered::Numbered;
 use model::record::Record;
