@@ -64,7 +64,7 @@ impl<'a> Cell<'a> {
         ensures { result ≡ ranged low high self.now }
     {
         let n = self.number()?;
-        if low <= n && n <= high {
+        if (low..=high).contains(&n) {
             Ok(n)
         } else {
             Err(self.fault(Problem::OutOfRange))
@@ -143,8 +143,7 @@ impl<'a> Cell<'a> {
 fn is_outside(links: &[PlannedLink], number: usize) -> bool
     ensures { result ≡ outside_at links.now number }
 {
-    match links.get(number) {
-        Some(planned) => planned.link.from.is_none(),
-        None => false,
-    }
+    links
+        .get(number)
+        .is_some_and(|planned| planned.link.from.is_none())
 }

@@ -8,10 +8,10 @@ use model::link::Link;
 use model::opening::Opening;
 
 // What a list holds from a place on.
-pub fn past<T>(items: &Vec<T>, start: usize) -> &[T]
-    ensures { result.now ≡ drop start items.now.items }
+pub fn past<T>(items: &[T], start: usize) -> &[T]
+    ensures { result.now ≡ drop start items.now }
 {
-    items.as_slice().get(start..).unwrap_or(&[])
+    items.get(start..).unwrap_or(&[])
 }
 
 // The time of the last of these events on a link; 0 if there is none.
@@ -39,13 +39,13 @@ fn leaves(planned: &PlannedLink, process: usize) -> bool
 fn same_source(links: &[PlannedLink], from: Option<usize>) -> usize
     ensures { result ≡ from_same links.now from }
 {
-    match from {
-        None => 0,
-        Some(process) => links
+    from.map_or(
+        0,
+        |process| links
             .iter()
             .filter(|planned| leaves(planned, process))
             .count(),
-    }
+    )
 }
 
 // Whether a plan with these links and so many places for each has room for one link more.

@@ -1,4 +1,4 @@
-//! One fields: read and added.
+//! One record: read and added.
 ghost use Rattle.std.specs.Prelude.{◌≡◌};
 ghost use Rattle.records.specs.Filling.{held, rooms};
 ghost use Rattle.records.specs.Adding.{Taken, process_taken, link_taken, event_taken, word_taken, record_taken};
