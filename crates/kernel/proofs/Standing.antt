@@ -12,7 +12,7 @@ use Rattle.kernel.specs.OfRun.{view_of}
 
 module _ {C P L : Type 0} {c : Cargo.Ghosts C} {p : Process.Ghosts P C} {l : Links.Ghosts L C} (r : Run C P L c p l) where
   abbrev v : View C P
-  v = view_of l.meaning r
+  v = view_of r
 
   pub prepared_is : as_prepared v ≡ true
   prepared_is =

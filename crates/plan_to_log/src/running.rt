@@ -33,7 +33,7 @@ fn refusals<C: Cargo, P: Process<C>, L: Links<C>>(
     run: &mut Run<C, P, L>,
     processes: usize,
 ) -> Result<Vec<Standing>, AllocError>
-    ensures { IfOk result (λ ss. Refusals (program_of C.Cargo P.Process) (view_of L.Links.meaning run.old) processes ss.items (view_of L.Links.meaning run.new)) }
+    ensures { IfOk result (λ ss. Refusals (program_of C.Cargo P.Process) (view_of run.old) processes ss.items (view_of run.new)) }
 {
     let mut standing = Vec::new(heap);
     for process in 0..processes {
@@ -57,7 +57,7 @@ fn ended<C: Cargo, P: Process<C>, L: Links<C>>(
     run: &mut Run<C, P, L>,
     processes: usize,
 ) -> Result<Ending, AllocError>
-    ensures { IfOk result (λ e. Ended (program_of C.Cargo P.Process) (view_of L.Links.meaning run.old) processes e) }
+    ensures { IfOk result (λ e. Ended (program_of C.Cargo P.Process) (view_of run.old) processes e) }
 {
     if run.done() {
         Ok(Ending::Finished)
@@ -84,7 +84,7 @@ fn run_out<C: Cargo, P: Process<C>, L: Links<C>>(
     run: &mut Run<C, P, L>,
     processes: usize,
 ) -> Result<Output, AllocError>
-    ensures { IfOk result (λ o. RanOut (program_of C.Cargo P.Process) (view_of L.Links.meaning run.old) processes o.text.items o.ending) }
+    ensures { IfOk result (λ o. RanOut (program_of C.Cargo P.Process) (view_of run.old) processes o.text.items o.ending) }
 {
     run.run(u32::MAX);
     let text = write_log(heap, run.log(), processes)?;

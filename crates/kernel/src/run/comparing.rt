@@ -29,7 +29,7 @@ pub fn same_history<C: Cargo, P: Process<C>, L: Links<C>, M: Links<C>>(
     process: usize,
 ) -> bool
     ensures answer { Decided result (history process a.now.log.items ≡ history process b.now.log.items) }
-    ensures law { (net : Net C P) → Together (program_of C.Cargo P.Process) net (view_of L.Links.meaning a.now) (view_of M.Links.meaning b.now) }
+    ensures law { (net : Net C P) → Together (program_of C.Cargo P.Process) net (view_of a.now) (view_of b.now) }
 {
     same_in_logs(a.log.as_slice(), b.log.as_slice(), process)
 }

@@ -26,15 +26,15 @@ impl<C: Cargo, P: Process<C>, L: Links<C>> Run<C, P, L> {
     // One step of a process: its safe event, if there is one, then null messages, then its mark. A breach that it reports is
     // the one by which the sequential simulation stops that process.
     pub fn step(&mut self, process: usize) -> Result<Stepped<C>, Refusal>
-        ensures called { Called (program_of C.Cargo P.Process) (Call.step process) (view_of L.Links.meaning self.old) result (view_of L.Links.meaning self.new) }
-        ensures breaches { Breaches (program_of C.Cargo P.Process) (view_of L.Links.meaning self.old) process result }
+        ensures called { Called (program_of C.Cargo P.Process) (Call.step process) (view_of self.old) result (view_of self.new) }
+        ensures breaches { Breaches (program_of C.Cargo P.Process) (view_of self.old) process result }
     {
         self.once(process)
     }
 
     // Every process steps once, rising, refused or not; answers whether all was quiet.
     fn pass(&mut self) -> bool
-        ensures { Pass (program_of C.Cargo P.Process) (view_of L.Links.meaning self.old) self.old.routes.plan.processes result (view_of L.Links.meaning self.new) }
+        ensures { Pass (program_of C.Cargo P.Process) (view_of self.old) self.old.routes.plan.processes result (view_of self.new) }
     {
         let mut all = true;
         let processes = self.routes.plan().processes();
@@ -47,7 +47,7 @@ impl<C: Cargo, P: Process<C>, L: Links<C>> Run<C, P, L> {
 
     // Passes until one is quiet or so many are made.
     pub fn run(&mut self, passes: u32) -> Passed
-        ensures { Called (program_of C.Cargo P.Process) (Call.run passes) (view_of L.Links.meaning self.old) result (view_of L.Links.meaning self.new) }
+        ensures { Called (program_of C.Cargo P.Process) (Call.run passes) (view_of self.old) result (view_of self.new) }
     {
         for made in 0..passes {
             if self.pass() {

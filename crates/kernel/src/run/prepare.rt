@@ -96,7 +96,7 @@ impl<C: Cargo, P: Process<C>, L: Links<C>> Run<C, P, L> {
     // Tells each link from outside that nothing more comes before the horizon.
     fn tell_outside(&mut self)
         ensures told { (n : ℕ) × Nulls (shape_of self.old.routes.plan).horizon (outside_links (shape_of self.old.routes.plan)) (L.Links.meaning self.old.links) n (L.Links.meaning self.new.links) }
-        ensures else_same { view_of L.Links.meaning self.new ≡ record (view_of L.Links.meaning self.old) { links = L.Links.meaning self.new.links } }
+        ensures else_same { view_of self.new ≡ record (view_of self.old) { links = L.Links.meaning self.new.links } }
     {
         let horizon = self.routes.horizon();
         for link in 0..self.routes.plan().link_count() {
@@ -115,7 +115,7 @@ impl<C: Cargo, P: Process<C>, L: Links<C>> Run<C, P, L> {
         mut links: L,
         size: usize,
     ) -> Result<Run<C, P, L>, NotPrepared<P, L>>
-        ensures { Answered (program_of C.Cargo P.Process) L.Links.meaning plan processes opening.now links size result }
+        ensures { Answered (program_of C.Cargo P.Process) plan processes opening.now links size result }
     {
         if let Err(why) = suits(&plan, processes.as_slice(), &links) {
             return Err(NotPrepared {

@@ -24,7 +24,7 @@ impl<C: Cargo, P: Process<C>, L: Links<C>> Run<C, P, L> {
 
     // The clock of a process: nothing that it will take arrives before.
     pub fn clock(&self, process: usize) -> Result<u32, Refusal>
-        ensures { Called (program_of C.Cargo P.Process) (Call.ask_clock process) (view_of L.Links.meaning self.now) result (view_of L.Links.meaning self.now) }
+        ensures { Called (program_of C.Cargo P.Process) (Call.ask_clock process) (view_of self.now) result (view_of self.now) }
     {
         if !self.has(process) {
             return Err(Refusal::NoSuch);
@@ -44,7 +44,7 @@ impl<C: Cargo, P: Process<C>, L: Links<C>> Run<C, P, L> {
 
     // How many events a process has taken.
     pub fn count(&self, process: usize) -> Result<usize, Refusal>
-        ensures { Called (program_of C.Cargo P.Process) (Call.ask_count process) (view_of L.Links.meaning self.now) result (view_of L.Links.meaning self.now) }
+        ensures { Called (program_of C.Cargo P.Process) (Call.ask_count process) (view_of self.now) result (view_of self.now) }
     {
         if !self.has(process) {
             return Err(Refusal::NoSuch);
@@ -66,7 +66,7 @@ impl<C: Cargo, P: Process<C>, L: Links<C>> Run<C, P, L> {
 
     // The record at a place of a process's history, counted from 0.
     pub fn record(&self, process: usize, place: usize) -> Result<Record, Refusal>
-        ensures { Called (program_of C.Cargo P.Process) (Call.ask_record process place) (view_of L.Links.meaning self.now) result (view_of L.Links.meaning self.now) }
+        ensures { Called (program_of C.Cargo P.Process) (Call.ask_record process place) (view_of self.now) result (view_of self.now) }
     {
         if !self.has(process) {
             return Err(Refusal::NoSuch);
@@ -76,14 +76,14 @@ impl<C: Cargo, P: Process<C>, L: Links<C>> Run<C, P, L> {
 
     // The whole log, oldest first: every history in one reading.
     pub fn log(&self) -> &[Record]
-        ensures { result.now ≡ (view_of L.Links.meaning self.now).log }
+        ensures { result.now ≡ (view_of self.now).log }
     {
         self.log.as_slice()
     }
 
     // How many rounds are over.
     pub fn rounds(&self) -> u32
-        ensures { Called (program_of C.Cargo P.Process) Call.ask_rounds (view_of L.Links.meaning self.now) result (view_of L.Links.meaning self.now) }
+        ensures { Called (program_of C.Cargo P.Process) Call.ask_rounds (view_of self.now) result (view_of self.now) }
     {
         self.marks.rounds()
     }
@@ -99,7 +99,7 @@ impl<C: Cargo, P: Process<C>, L: Links<C>> Run<C, P, L> {
 
     // Whether the run is finished: every clock is at the horizon.
     pub fn done(&self) -> bool
-        ensures { Called (program_of C.Cargo P.Process) Call.ask_done (view_of L.Links.meaning self.now) result (view_of L.Links.meaning self.now) }
+        ensures { Called (program_of C.Cargo P.Process) Call.ask_done (view_of self.now) result (view_of self.now) }
     {
         self.all_ended(self.routes.plan().processes())
     }

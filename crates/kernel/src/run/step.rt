@@ -26,7 +26,7 @@ use model::refusal::Refusal;
 impl<C: Cargo, P: Process<C>, L: Links<C>> Run<C, P, L> {
     // Whether there is such a process.
     pub(super) fn has(&self, process: usize) -> bool
-        ensures { result ≡ has (view_of L.Links.meaning self.now) process }
+        ensures { result ≡ has (view_of self.now) process }
     {
         process < self.routes.plan().processes()
     }
@@ -63,7 +63,7 @@ impl<C: Cargo, P: Process<C>, L: Links<C>> Run<C, P, L> {
         requires process { process < self.old.routes.plan.processes }
         requires state { at self.old.processes.items process ≡ Some state }
         requires safe { Finds (shape_of self.old.routes.plan) (L.Links.meaning self.old.links) process (Some safe) }
-        ensures { Taking (program_of C.Cargo P.Process) (view_of L.Links.meaning self.old) process state safe result (view_of L.Links.meaning self.new) }
+        ensures { Taking (program_of C.Cargo P.Process) (view_of self.old) process state safe result (view_of self.new) }
     {
         let outs = self.outs(process);
         if let Some(link) = outs.lowest_full() {
@@ -98,7 +98,7 @@ impl<C: Cargo, P: Process<C>, L: Links<C>> Run<C, P, L> {
     fn close(&mut self, process: usize, lookahead: u32) -> u32
         requires process { process < self.old.routes.plan.processes }
         requires near { lookahead ≤ 10000 }
-        ensures closes { Closes (view_of L.Links.meaning self.old) process lookahead (L.Links.meaning self.old.links) result (view_of L.Links.meaning self.new) }
+        ensures closes { Closes (view_of self.old) process lookahead (L.Links.meaning self.old.links) result (view_of self.new) }
         ensures processes { self.new.processes.items ≡ self.old.processes.items }
         ensures log { self.new.log.items ≡ self.old.log.items }
     {
@@ -115,7 +115,7 @@ impl<C: Cargo, P: Process<C>, L: Links<C>> Run<C, P, L> {
 
     // The stages of a step, in their order.
     pub(super) fn once(&mut self, process: usize) -> Result<Stepped<C>, Refusal>
-        ensures { Step (program_of C.Cargo P.Process) (view_of L.Links.meaning self.old) process result (view_of L.Links.meaning self.new) }
+        ensures { Step (program_of C.Cargo P.Process) (view_of self.old) process result (view_of self.new) }
     {
         if !self.has(process) {
             return Err(Refusal::NoSuch);

@@ -6,5 +6,5 @@ use Rattle.plan_to_log.proofs.running.refusals.Given as goal
 
 abbrev pub invariant-loop-process : goal.invariant-loop-process
 invariant-loop-process g l =
-    Refusals (program_of g.C.Cargo g.P.Process) (view_of g.L.Links.meaning l.initial.run) l.process (vec_items l.standing)
-    (view_of g.L.Links.meaning l.run)
+    Refusals (program_of g.C.Cargo g.P.Process) (view_of l.initial.run) l.process (vec_items l.standing)
+    (view_of l.run)

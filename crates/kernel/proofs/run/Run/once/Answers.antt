@@ -28,7 +28,7 @@ returns g c =
     let s = c.index.result.now in
     let u = c.match-safe.self in
     let n = c.close-nulls.result in
-    let W = view_of m c.close-nulls.new.self in
+    let W = view_of c.close-nulls.new.self in
     let there = has_there r p (sym c.has.ensures ∙ c.if-not-has.false) in
     let is_state = at_read (vec_items r.processes) p s (omega (arith, there, r.processes.ok.0, r.peopled)) ∙ ap Some (sym c.index.ensures) in
     let here = ready r p s there is_state in
@@ -37,15 +37,15 @@ returns g c =
       | in-Some+in_ok-take w ↦
           let safe = w.in-Some.safe in
           let taken : c.map-taken.result ≡ Some safe.event = search rules in
-          let took = subst (λ x. Took G (view_of m r) p s safe.link safe.event (view_of m x)) (sym w.self-is) w.in_ok-take.ensures in
-          subst (λ t. Step G (view_of m r) p (Ok (record { taken = t; nulls = n })) W) (sym taken)
-          (taking_step G p s (view_of m r) (view_of m u) W safe.link safe.event c.lookahead-lookahead.result n here
+          let took = subst (λ x. Took G (view_of r) p s safe.link safe.event (view_of x)) (sym w.self-is) w.in_ok-take.ensures in
+          subst (λ t. Step G (view_of r) p (Ok (record { taken = t; nulls = n })) W) (sym taken)
+          (taking_step G p s (view_of r) (view_of u) W safe.link safe.event c.lookahead-lookahead.result n here
           w.in-Some.ensures.0 c.lookahead-lookahead.ensures took ends.closes ends.processes ends.log)
       | in_default w ↦
           let taken : c.map-taken.result ≡ None = search rules in
-          subst (λ t. Step G (view_of m r) p (Ok (record { taken = t; nulls = n })) W) (sym taken)
-          (idle_step G p s (view_of m r) W c.lookahead-lookahead.result n here w.in_default.ensures c.lookahead-lookahead.ensures
-          (subst (λ x. Closes (view_of m x) p c.lookahead-lookahead.result (m x.links) n W) w.self-is ends.closes)
+          subst (λ t. Step G (view_of r) p (Ok (record { taken = t; nulls = n })) W) (sym taken)
+          (idle_step G p s (view_of r) W c.lookahead-lookahead.result n here w.in_default.ensures c.lookahead-lookahead.ensures
+          (subst (λ x. Closes (view_of x) p c.lookahead-lookahead.result (m x.links) n W) w.self-is ends.closes)
           (ends.processes ∙ ap (λ x. vec_items x.processes) w.self-is)
           (ends.log ∙ ap (λ x. vec_items x.log) w.self-is))
     ]

@@ -13,8 +13,8 @@ pub returns-then-pass : goal.returns-then-pass
 returns-then-pass g c =
     let m = g.L.Links.meaning in
     let G = program_of g.C.Cargo g.P.Process in
-    let v = view_of m c.args.self.now in
-    let w = view_of m c.pass.new.self in
+    let v = view_of c.args.self.now in
+    let w = view_of c.pass.new.self in
     called _ _ _ _ _ (record {
       passes = subst (λ n. Passes G v n true w) (sym (add-one c.loop-made.made))
           (subst (λ q. Passes G v (suc c.loop-made.made) q w) c.if-pass.true (Passes.another c.loop-made.invariant c.pass.ensures));
@@ -26,8 +26,8 @@ pub loop-made-preserved : goal.loop-made-preserved
 loop-made-preserved g c =
     let m = g.L.Links.meaning in
     let G = program_of g.C.Cargo g.P.Process in
-    let v = view_of m c.args.self.now in
-    let w = view_of m c.pass.new.self in
+    let v = view_of c.args.self.now in
+    let w = view_of c.pass.new.self in
     subst (λ n. Passes G v n false w) (sym (add-one c.loop-made.made))
     (subst (λ q. Passes G v (suc c.loop-made.made) q w) c.if-pass.false (Passes.another c.loop-made.invariant c.pass.ensures))
 
@@ -35,8 +35,8 @@ pub returns : goal.returns
 returns g c =
     let m = g.L.Links.meaning in
     let G = program_of g.C.Cargo g.P.Process in
-    let v = view_of m c.args.self.now in
-    let w = view_of m c.loop-made.self in
+    let v = view_of c.args.self.now in
+    let w = view_of c.loop-made.self in
     let ended : c.loop-made.made ≡ c.args.passes = omega (arith, c.loop-made-test.false, c.loop-made.auto.made-end) in
     called _ _ _ _ _ (record {
       passes = subst (λ n. Passes G v n false w) ended c.loop-made.invariant;

@@ -6,5 +6,5 @@ use Rattle.kernel.proofs.run.Run.run.Given as goal
 
 abbrev pub invariant-loop-made : goal.invariant-loop-made
 invariant-loop-made g l =
-    Passes (program_of g.C.Cargo g.P.Process) (view_of g.L.Links.meaning l.initial.self) l.made false
-    (view_of g.L.Links.meaning l.self)
+    Passes (program_of g.C.Cargo g.P.Process) (view_of l.initial.self) l.made false
+    (view_of l.self)

@@ -49,7 +49,7 @@ returns-in_err-going g c =
     let broken : (b : Breach) × (c.from_residual.result ≡ Err (Breached b)) × (c.judge.result ≡ Err b) = search rules in
     let ran : Ran G (shape_of r.routes.plan) (m r.links) p s safe.link safe.event safe.port ahead ks next sending =
     record { at_port = c.requires.safe.1; answer = c.handle-sending.ensures; reads = c.lookahead.ensures; outs = c.outs-outs.ensures.list } in
-    subst (λ a. Taking G (view_of m r) p s safe a (view_of m r)) (sym broken.1)
+    subst (λ a. Taking G (view_of r) p s safe a (view_of r)) (sym broken.1)
     (Step.breached (ready r p s c.requires.process c.requires.state) c.requires.safe.0 (sym (c.in_default.ensures ∙ full))
     (omega (arith, c.if-len-self.false, c.len.ensures, r.log.ok.0))
     (broke G (shape_of r.routes.plan) (m r.links) p s safe.link safe.event safe.port ahead ks next sending ran broken.0 (sym judge ∙ broken.2)))

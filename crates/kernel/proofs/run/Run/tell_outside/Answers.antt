@@ -30,11 +30,11 @@ loop-link-preserved g c =
       | then-from_outside w ↦
           let n = m w.tell.new.links in
           let told = subst (λ t. Nulls t (i ∷ []) (m c.loop-link.self.links) (if w.tell.result then 1 else 0) n) c.horizon-horizon.ensures.is w.tell.ensures.nulls in
-          subst (λ s. Told plan.horizon test (i + 1) (m first.links) (m s.links) × (view_of m s ≡ record (view_of m first) { links = m s.links }))
+          subst (λ s. Told plan.horizon test (i + 1) (m first.links) (m s.links) × (view_of s ≡ record (view_of first) { links = m s.links }))
           (sym w.self-is)
           (told_with plan.horizon test i _ _ inv.0 n _ (is_test ∙ w.if-from_outside.true) told, ap (λ (v : View g.row.C.Denot g.row.P.Denot). record v { links = n }) inv.1)
       | else-from_outside w ↦
-          subst (λ s. Told plan.horizon test (i + 1) (m first.links) (m s.links) × (view_of m s ≡ record (view_of m first) { links = m s.links }))
+          subst (λ s. Told plan.horizon test (i + 1) (m first.links) (m s.links) × (view_of s ≡ record (view_of first) { links = m s.links }))
           (sym w.self-is)
           (told_without plan.horizon test i _ _ inv.0 (is_test ∙ w.if-from_outside.false), inv.1)
     ]

@@ -12,4 +12,4 @@ invariant-loop-link g l =
     let m = g.L.Links.meaning in
     let plan = shape_of l.initial.self.routes.plan in
     Told plan.horizon (λ k. is_none (source plan k)) l.link (m l.initial.self.links) (m l.self.links)
-    × (view_of m l.self ≡ record (view_of m l.initial.self) { links = m l.self.links })
+    × (view_of l.self ≡ record (view_of l.initial.self) { links = m l.self.links })
