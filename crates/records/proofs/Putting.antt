@@ -1,5 +1,5 @@
 -- Bytes put where they fit, and the length of a line.
-use Rattle.std.proofs.Common.{◌≡◌, ℕ, ◌+◌, ◌^◌, ◌<◌, ◌≤◌, true, ◌&&◌, ltb, List, ◌++◌, length, drop, is_some, Some, None, Ok, Option, refl, ap, ◌∙◌, append_assoc, arith, length-append}
+use Rattle.std.proofs.Common.{◌≡◌, ℕ, ◌+◌, ◌^◌, ◌<◌, ◌≤◌, true, ◌&&◌, ltb, List, ◌++◌, length, drop, Some, None, Ok, Option, ap, ◌∙◌, append_assoc, arith, length-append}
 use Rattle.std.proofs.lemmas.Bool.{and_parts, ltb-true}
 use Rattle.model.specs.declared.record.Record.{Record}
 use Rattle.text.specs.Decimal.{digits}
@@ -10,11 +10,6 @@ use Rattle.records.specs.Limits.{line_within}
 use Rattle.records.specs.LogText.{comma, line_end, bytes_of, Written}
 
 -- Bytes that fit are put.
-pub fits : (before bytes after : List ℕ) (at end : ℕ) (r : Option (Unit {0}))
-    → Puts before at bytes r end after → at + length bytes ≤ length before → is_some r ≡ true
-fits before bytes after at end (Some done) p l = refl
-fits before bytes after at end None p l = absurd (omega (arith, p.0.short))
-
 pub placed : (before bytes after : List ℕ) (at end : ℕ) (r : Option (Unit {0}))
     → Puts before at bytes r end after → at + length bytes ≤ length before → Placed before at bytes end after
 placed before bytes after at end (Some done) p l = p

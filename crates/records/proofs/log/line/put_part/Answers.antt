@@ -1,19 +1,8 @@
 use Rattle.std.proofs.Common.{arith, rules, length-append}
 use Rattle.text.specs.Decimal.{digits}
 use Rattle.text.proofs.Pieces.{joined, length_kept}
-use Rattle.records.proofs.Putting.{fits, placed}
+use Rattle.records.proofs.Putting.{placed}
 use Rattle.records.proofs.log.line.put_part.Goals as goal
-
-pub unwrap-requires : goal.unwrap-requires
-unwrap-requires c =
-    let all = length-append (digits c.args.n) c.args.behind.now in
-    fits _ _ _ _ _ _ c.put_number.ensures.puts (omega arith)
-
-pub unwrap-requires-2 : goal.unwrap-requires-2
-unwrap-requires-2 c =
-    let all = length-append (digits c.args.n) c.args.behind.now in
-    let p = placed _ _ _ _ _ _ c.put_number.ensures.puts (omega arith) in
-    fits _ _ _ _ _ _ c.put_bytes.ensures.puts (omega (arith, p.ends, length_kept _ p))
 
 pub returns : goal.returns
 returns c =
