@@ -36,6 +36,7 @@ impl LogLine {
     }
 
     // Writes the line into the buffer, and answers how long it is.
+    #[tactic(auto, using(crate::proofs::Putting::short, crate::proofs::Putting::short_code))]
     pub fn write(&self, buf: &mut [u8]) -> Result<usize, LineFault>
         ensures { Written buf.old self.now result buf.new }
     {
