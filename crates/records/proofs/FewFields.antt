@@ -1,9 +1,8 @@
 -- A line has no more fields than bytes and one, and nine fields fill nine places.
-use Rattle.std.proofs.Common.{◌≡◌, ℕ, ◌+◌, ◌≤◌, List, ◌∷◌, ◌++◌, length, ap, ◌∙◌, ⊎_elim, arith, length-append}
+use Rattle.std.proofs.Common.{◌≡◌, ℕ, ◌+◌, ◌≤◌, List, ◌∷◌, ◌++◌, length, ◌∙◌, arith, length-append}
 use Rattle.std.proofs.lemmas.List.{take_all, drop_all, append-nil}
 use Rattle.text.specs.Fields.{Cut, whole, broken, found, onto, filled}
 use Rattle.text.specs.Grammar.{Parted, last, more, fault}
-use Rattle.text.specs.Lines.{FirstLine}
 
 one_field : (field : List ℕ) (k : Cut) → length (found (onto field k)) ≤ length (found k) + 1
 one_field field (whole fields) = omega arith
@@ -18,10 +17,3 @@ few_fields (fault n) = omega arith
 pub nine_held : (after places fields : List (List ℕ)) → after ≡ filled places fields → length fields ≡ 9 → length places ≡ 9 → after ≡ fields
 nine_held after places fields e f p =
     e ∙ (λ i. take_all (length places) fields (omega arith) i ++ drop_all (length fields) places (omega arith) i) ∙ append-nil fields
-
--- A line is no longer than its text.
-pub line_short : (text line rest : List ℕ) → FirstLine text line rest → length line ≤ length text
-line_short text line rest first =
-    ⊎_elim (λ e. omega (arith, ap length e, length-append line (10 ∷ rest)))
-    (⊎_elim (λ e. omega (arith, ap length e, length-append line (13 ∷ 10 ∷ rest))) (λ e. omega (arith, ap length e.0)))
-    first.split

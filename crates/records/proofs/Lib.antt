@@ -3,3 +3,4 @@ pub mod Numbers
 pub mod FewFields
 pub mod Spelling
 pub mod Nine
+pub mod PlanLines

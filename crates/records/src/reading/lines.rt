@@ -11,7 +11,7 @@ use super::fields::Fields;
 use super::lists::{Lists, Starts};
 use super::lookups::past;
 use model::reading::{PlanFault, RecordFault};
-use text::lines::split_line;
+use text::lines::lines;
 
 impl<C: Copy, P: ProcessKind<C>> Lists<C, P> {
     // One line: its fields, and what the record adds.
@@ -29,12 +29,8 @@ impl<C: Copy, P: ProcessKind<C>> Lists<C, P> {
         requires { length text.now ≤ 65536 }
         ensures { ◌≡◌ {A = AllTaken P C} (held self.new, result) (lines_taken P.ProcessKind.processed P.ProcessKind.loaded (rooms self.old) starts 2 (lines_of text.now) (held self.old)) }
     {
-        let mut rest = text;
-        let mut line = 2;
-        while let Some((record, after)) = split_line(rest) {
+        for (record, line) in lines(text).zip(2..) {
             self.take_line(starts, line, record)?;
-            line += 1;
-            rest = after;
         }
         if past(&self.processes, starts.processes).is_empty() {
             return Err(PlanFault::NoProcess);
