@@ -4,3 +4,4 @@ pub mod FewFields
 pub mod Spelling
 pub mod Nine
 pub mod PlanLines
+pub mod Faults

@@ -49,16 +49,11 @@ impl<'a> Fields<'a> {
     {
         let empty = &bytes[0..0];
         let mut fields = [empty; 9];
-        let count = match cut_fields(bytes, &mut fields) {
-            Ok(count) => count,
-            Err(malformed) => {
-                return Err(RecordFault::from(FieldFault {
-                    line,
-                    field: malformed.field as u32,
-                    problem: Problem::Malformed,
-                }));
-            }
-        };
+        let count = cut_fields(bytes, &mut fields).map_err(|malformed| FieldFault {
+            line,
+            field: malformed.field as u32,
+            problem: Problem::Malformed,
+        })?;
         if count != 9 {
             return Err(RecordFault::NotNineFields(line));
         }
