@@ -1,4 +1,4 @@
-use Rattle.std.proofs.Common.{◌≡◌, ◌≤◌, [], length, map, replicate, Ok, Err, sym, refl, ap, ◌∙◌, subst, arith}
+use Rattle.std.proofs.Common.{◌≡◌, ◌≤◌, [], length, map, replicate, Ok, Err, refl, ap, ◌∙◌, subst, arith}
 use Rattle.std.proofs.iter.Serving.{serving}
 use Rattle.text.specs.declared.fields.Malformed.{Malformed}
 use Rattle.text.specs.Fields.{cut_line, found, Answer}
@@ -19,6 +19,6 @@ returns c =
     let k = cut_line c.args.bytes.now in
     let was = was_ok _ _ _ _ c.in_ok-count.ensures.cases c.in_ok-count.ensures.variant in
     let cut = subst (Answer k) was c.cut_fields.ensures.answer in
-    let n : length (found k) ≡ 9 = sym cut.1 ∙ c.if-count-ne9.false in
+    let n : length (found k) ≡ 9 = omega (arith, cut.1) in
     let e : map (λ x. x.now) c.cut_fields.new.out ≡ found k = nine_held _ (replicate 9 []) (found k) c.cut_fields.ensures.places n refl in
     ap Ok c.new.ensures ∙ nine_cut c.args.line k (map (λ x. x.now) c.cut_fields.new.out) cut.0 n e
