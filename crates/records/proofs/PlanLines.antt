@@ -24,7 +24,7 @@ onto_short : (n b : ℕ) (lines : List (List ℕ)) → Short n lines → Short (
 onto_short n b [] s = (omega arith, tt)
 onto_short n b (line ∷ lines) s = (omega (arith, s.0), longer n (suc n) lines (omega arith) s.1)
 
--- A line is no longer than its
+-- A line is no longer than its text.
 pub lines_short : (bytes : List ℕ) → Short (length bytes) (lines_of bytes)
 lines_short [] = tt
 lines_short (b ∷ bs) =
