@@ -15,11 +15,6 @@ pub same_made : {F V : Type 0} (within : F → Bool) (make : (f : F) → within 
     → f ≡ g → make f p ≡ make g q
 same_made within make p q e = λ i. make (e i) (is_prop→PathP (λ j. within (e j) ≡ true) (λ j. Bool-set (within (e j)) true) p q i)
 
--- Those that are made of two numbers, the second below 65,536, are equal if one number stands for both.
-pub same_coded : {V : Type 0} (within : ℕ → ℕ → Bool) (make : (m n : ℕ) → within m n ≡ true → V) {m n k l : ℕ}
-    (p : within m n ≡ true) (q : within k l ≡ true)
-    → n < 65536 → l < 65536 → m * 65536 + n ≡ k * 65536 + l → make m n p ≡ make k l q
-same_coded within make {m} {n} {k} {l} p q low lower e =
-    let first : m ≡ k = omega arith in
-    let second : n ≡ l = omega arith in
-    same_made {F = ℕ × ℕ} (λ f. within f.0 f.1) (λ f. make f.0 f.1) {f = (m, n)} {g = (k, l)} p q (λ i. (first i, second i))
+-- A number that stands for two, the second below 65,536, tells both.
+pub parts_of_code : (m n k l : ℕ) → n < 65536 → l < 65536 → m * 65536 + n ≡ k * 65536 + l → (m ≡ k) × (n ≡ l)
+parts_of_code m n k l low lower e = (omega arith, omega arith)

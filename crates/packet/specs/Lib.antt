@@ -3,3 +3,4 @@ pub mod Serving
 pub mod Frames
 pub mod Switches
 pub mod Kinds
+pub mod SameFrame

@@ -4,3 +4,4 @@ pub mod Vehicles
 pub mod Starting
 pub mod Signals
 pub mod Kinds
+pub mod SameVehicle

@@ -1,7 +1,7 @@
 //! The number that stands for a vehicle in a log.
-ghost use Rattle.exit.proofs.Made.{same_coded};
-ghost use Rattle.road.specs.Limits.{vehicle_within};
-ghost use Rattle.road.specs.Vehicles.{vehicle_code, vehicle_with};
+ghost use Rattle.exit.proofs.Made.{parts_of_code};
+ghost use Rattle.road.specs.SameVehicle.{same_vehicle};
+ghost use Rattle.road.specs.Vehicles.{vehicle_code};
 ghost use Rattle.std.proofs.Common.{rules, arith};
 
 use super::Vehicle;
@@ -13,7 +13,8 @@ impl Cargo for Vehicle {
     ghost small = { Prim.search rules };
 
     ghost distinct = { λ x y e.
-        same_coded vehicle_within vehicle_with x.limits y.limits (Prim.search rules) (Prim.search rules) e };
+        let parts = parts_of_code x.class x.route y.class y.route (Prim.search rules) (Prim.search rules) e in
+        same_vehicle x y parts.0 parts.1 };
 
     fn code(&self) -> u32 {
         self.class * 65_536 + self.route
