@@ -1,5 +1,5 @@
 -- What a plan's text gives.
-use Rattle.std.specs.Prelude.{ℕ, cond, List, [], ◌∷◌, length, Ok, Err, Result, nat_lt}
+use Rattle.std.specs.Prelude.{ℕ, cond, List, [], ◌∷◌, length, Ok, Err, Result, nat_lt, vec_items, vec_capacity}
 use Rattle.std.specs.Result.{result_map_both}
 use Rattle.model.specs.declared.reading.RecordFault.{RecordFault}
 use Rattle.model.specs.declared.reading.RecordFault.TheVariants.{InField}
@@ -17,10 +17,13 @@ use Rattle.records.specs.Words.{word_of}
 use Rattle.records.specs.Cells.{spelt}
 use Rattle.records.specs.Kinds.{net_of}
 use Rattle.records.specs.Families.{ProcessReading, CargoReading, misplaced, road_process, road_cargo, switch_process, switch_cargo}
-use Rattle.records.specs.Filling.{Held, Room, held, rooms}
+use Rattle.records.specs.Filling.{Held, Room}
 use Rattle.records.specs.Lines.{lines_taken}
 use Rattle.records.specs.declared.reading.kinds.Net as net
+use Rattle.records.specs.declared.reading.kinds.PlannedLink.{PlannedLink}
+use Rattle.records.specs.declared.reading.lists.FamilyLists.{FamilyLists}
 use Rattle.records.specs.declared.reading.lists.PlanLists.{PlanLists}
+use Rattle.model.specs.declared.opening.Opening.{Opening}
 use Rattle.records.specs.declared.reading.words.Family as words
 use Rattle.records.specs.declared.reading.words.Family.TheVariants as family
 use Rattle.records.specs.declared.reading.words.Word.{Word}
@@ -54,22 +57,51 @@ family_taken reads loads room header lines x =
     2 lines x in
     (q.0, result_map_both (λ _. header) (λ e. e) q.1)
 
--- What the caller's lists of both families hold.
+-- What the lists of one family hold, and how many items they have room for.
+pub record Own (P C : Type 0) : Type 0 where
+  pub processes : List P
+  pub openings : List (Opening C)
+
+pub record OwnRoom : Type 0 where
+  pub processes : ℕ
+  pub openings : ℕ
+
+module _ {C P : Type 0} (x : FamilyLists C P) where
+  abbrev pub own : Own P C
+  own = record { processes = vec_items x.processes; openings = vec_items x.openings }
+
+  abbrev pub own_room : OwnRoom
+  own_room = record { processes = vec_capacity x.processes; openings = vec_capacity x.openings }
+
+-- With the links.
+abbrev pub with_links : {P C : Type 0} → Own P C → List PlannedLink → Held P C
+with_links x links = record { processes = x.processes; links = links; openings = x.openings }
+
+abbrev pub room_for : OwnRoom → ℕ → Room
+room_for x links = record { processes = x.processes; links = links; openings = x.openings }
+
+-- Without them.
+abbrev pub own_of : {P C : Type 0} → Held P C → Own P C
+own_of x = record { processes = x.processes; openings = x.openings }
+
+-- What all of the caller's lists hold.
 pub record AllHeld : Type 0 where
-  pub roads : Held RoadProcess Vehicle
-  pub switches : Held PacketProcess Frame
+  pub roads : Own RoadProcess Vehicle
+  pub switches : Own PacketProcess Frame
+  pub links : List PlannedLink
 
 -- How many items they have room for.
 pub record AllRooms : Type 0 where
-  pub roads : Room
-  pub switches : Room
+  pub roads : OwnRoom
+  pub switches : OwnRoom
+  pub links : ℕ
 
 module _ (x : PlanLists) where
   abbrev pub all_held : AllHeld
-  all_held = record { roads = held x.roads; switches = held x.switches }
+  all_held = record { roads = own x.roads; switches = own x.switches; links = vec_items x.links }
 
   abbrev pub all_rooms : AllRooms
-  all_rooms = record { roads = rooms x.roads; switches = rooms x.switches }
+  all_rooms = record { roads = own_room x.roads; switches = own_room x.switches; links = vec_capacity x.links }
 
 -- What the lists hold, and the answer: what the net record says, or a fault.
 abbrev pub PlanRead : Type 0
@@ -78,11 +110,11 @@ PlanRead = AllHeld × Result net.Net PlanFault
 -- The family decides which lists are filled.
 abbrev pub in_family : words.Family → AllRooms → net.Net → List (List ℕ) → AllHeld → PlanRead
 in_family family.Road room header lines x =
-    let q = family_taken road_process road_cargo room.roads header lines x.roads in
-    (record { roads = q.0; switches = x.switches }, q.1)
+    let q = family_taken road_process road_cargo (room_for room.roads room.links) header lines (with_links x.roads x.links) in
+    (record { roads = own_of q.0; switches = x.switches; links = q.0.links }, q.1)
 in_family family.Switch room header lines x =
-    let q = family_taken switch_process switch_cargo room.switches header lines x.switches in
-    (record { roads = x.roads; switches = q.0 }, q.1)
+    let q = family_taken switch_process switch_cargo (room_for room.switches room.links) header lines (with_links x.switches x.links) in
+    (record { roads = x.roads; switches = own_of q.0; links = q.0.links }, q.1)
 
 -- The net record, and then the lines behind it.
 abbrev pub after_first : Result net.Net RecordFault → AllRooms → List (List ℕ) → AllHeld → PlanRead

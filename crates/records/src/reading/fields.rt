@@ -82,22 +82,20 @@ impl<'a> Fields<'a> {
         }
     }
 
-    // A field from 3 on.
-    pub(super) fn cell(&self, field: u32) -> Cell<'a>
-        requires first { 3 ≤ field }
-        requires last { field ≤ 9 }
+    // A field from 3 to 9; empty from 10 on.
+    pub fn cell(&self, field: u32) -> Cell<'a>
         ensures { result ≡ cell self.now field }
     {
+        let place = field.saturating_sub(3) as usize;
         Cell {
             line: self.line,
             field,
-            bytes: self.rest[field as usize - 3],
+            bytes: self.rest.get(place).copied().unwrap_or(&[]),
         }
     }
 
     // The fields from this one to the ninth are unused.
-    pub(super) fn unused_from(&self, first: u32) -> Result<(), FieldFault>
-        requires { 3 ≤ first }
+    pub fn unused_from(&self, first: u32) -> Result<(), FieldFault>
         ensures { result ≡ unused_from first self.now }
     {
         for field in first..10 {

@@ -6,7 +6,7 @@ use packet::kind::PacketKind;
 use road::kind::RoadKind;
 use road::vehicle::Vehicle;
 
-// The lists of a family. Each has room for as many items as its capacity.
+// The lists that the records of a family fill. Each has room for as many items as its capacity.
 #[derive(Drop)]
 pub struct Lists<C, P> {
     pub processes: Vec<P>,
@@ -14,11 +14,19 @@ pub struct Lists<C, P> {
     pub openings: Vec<Opening<C>>,
 }
 
-// The lists of both families, of which a plan fills one.
+// The lists of one family.
+#[derive(Drop)]
+pub struct FamilyLists<C, P> {
+    pub processes: Vec<P>,
+    pub openings: Vec<Opening<C>>,
+}
+
+// The lists of both families, of which a plan fills one, and the links of either.
 #[derive(Drop)]
 pub struct PlanLists {
-    pub roads: Lists<Vehicle, RoadKind>,
-    pub switches: Lists<Frame, PacketKind>,
+    pub roads: FamilyLists<Vehicle, RoadKind>,
+    pub switches: FamilyLists<Frame, PacketKind>,
+    pub links: Vec<PlannedLink>,
 }
 
 // How long the lists were before the first record, and how many places each link has.
