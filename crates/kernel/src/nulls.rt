@@ -7,7 +7,7 @@ use crate::asking::Present;
 use model::cargo::Cargo;
 use model::links::Links;
 
-// A null at a time on a link, if its floor is below the null's arrival; answers whether it was.
+// A null at a time on a link, if its floor is below the null's arrival; answers whether one was put.
 pub(crate) fn tell<C: Cargo, L: Links<C>>(links: &mut L, link: usize, time: u32) -> bool
     requires there { link < (L.Links.meaning links.old).count }
     requires soon { time ≤ 1000000000 }

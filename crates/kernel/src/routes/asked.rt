@@ -25,8 +25,7 @@ impl Routes {
     pub(crate) fn into_plan(self) -> Plan
         ensures { result ≡ self.plan }
     {
-        let Routes { plan, ports: _ } = self;
-        plan
+        self.plan
     }
 
     // The in-links of a process.

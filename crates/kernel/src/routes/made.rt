@@ -18,7 +18,7 @@ fn lists_of(heap: Global, plan: &Plan, process: usize) -> Result<PortLists, Allo
     })
 }
 
-// The same of every process.
+// The same for every process.
 fn all_lists(heap: Global, plan: &Plan) -> Result<Vec<PortLists>, AllocError>
     ensures { IfOk result (λ all. Wired plan.now all.items) }
 {

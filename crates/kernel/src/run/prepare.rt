@@ -35,7 +35,7 @@ fn fits<C: Cargo, L: Links<C>>(links: &L, plan: &Plan, link: usize) -> bool
         && links.delay(link) == Ok(planned.delay)
 }
 
-// Whether there are as many processes and links as planned, and every link fits.
+// Why there is no run over these, if so: processes or links are not as many as planned, or a link does not fit.
 fn suits<C: Cargo, P: Process<C>, L: Links<C>>(
     plan: &Plan,
     processes: &[P],

@@ -17,7 +17,6 @@ use crate::safety::Safe;
 use crate::sending::pass_on;
 use model::answer::Stepped;
 use model::cargo::Cargo;
-use model::event::Event;
 use model::links::Links;
 use model::process::Process;
 use model::record::Record;
@@ -72,24 +71,20 @@ impl<C: Cargo, P: Process<C>, L: Links<C>> Run<C, P, L> {
         if self.log.len() >= self.room {
             return Err(Refusal::LogFull);
         }
-        let Safe {
-            port,
-            link,
-            event: Event { time, cargo },
-        } = safe;
+        let Safe { port, link, event } = safe;
         let mut next = state;
-        let earliest = time + state.lookahead();
-        let sending = next.handle(port, time, cargo);
+        let earliest = event.time + state.lookahead();
+        let sending = next.handle(port, event.time, event.cargo);
         let going = outs
             .judge(process, earliest, sending)
             .map_err(Refusal::Breached)?;
-        pass_on(&mut self.links, link, Event { time, cargo }, going);
+        pass_on(&mut self.links, link, event, going);
         self.processes[process] = next;
         self.log.push_reserved(Record {
             process,
             link,
-            time,
-            code: cargo.code(),
+            time: event.time,
+            code: event.cargo.code(),
         });
         Ok(())
     }
