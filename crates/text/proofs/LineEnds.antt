@@ -1,12 +1,40 @@
 -- Where the first line of a text ends.
-use Rattle.std.proofs.Common.{◌≡◌, ℕ, suc, ◌+◌, ◌-◌, ◌<◌, ◌≤◌, false, ◌&&◌, eqb, List, [], ◌∷◌, ◌++◌, length, get_or, take, drop, Some, None, Option, unwrap_or, sym, refl, ap, ◌∙◌, inl, inr, append_assoc, arith, length-append, Bor, MatchOption}
+use Rattle.std.proofs.Common.{◌≡◌, ℕ, suc, ◌+◌, ◌-◌, ◌<◌, ◌≤◌, true, false, cond, ◌&&◌, eqb, ◌⊎◌, List, [], ◌∷◌, ◌++◌, length, get_or, take, drop, Some, None, Option, unwrap_or, sym, refl, ap, ◌∙◌, inl, inr, ⊎_elim, append_assoc, arith, length-append, Bor, MatchOption}
 use Rattle.std.proofs.lemmas.List.{take_rest, take-append-drop, drop_more, length-take-le, get_or-take, get_or_append_left, drop_all}
-use Rattle.std.proofs.lemmas.Bool.{ne_eqb, and_right}
+use Rattle.std.proofs.lemmas.Bool.{eq-eqb, ne_eqb, cases_eq, and_right}
 use Rattle.text.specs.Lines.{FirstLine, begins_lf, lines_of, onto}
 
 -- no LF before i
 abbrev pub Clear : List ℕ → ℕ → Type 0
 Clear xs i = (k : ℕ) → k < i → get_or xs k 0 ≡ 10 → ⊥
+
+-- what stands before an LF, without a CR at its end
+abbrev without_cr : List ℕ → List ℕ
+without_cr [] = []
+without_cr (b ∷ []) = cond (eqb b 13) [] (b ∷ [])
+without_cr (b ∷ c ∷ bs) = b ∷ without_cr (c ∷ bs)
+
+-- nothing but a CR is taken off
+stripped : (xs : List ℕ) → (xs ≡ without_cr xs) ⊎ (xs ≡ without_cr xs ++ 13 ∷ [])
+stripped [] = inl refl
+stripped (b ∷ []) =
+    ⊎_elim (λ e. let t : eqb b 13 ≡ true = eq-eqb b 13 e in inr (rw t (ap (λ x. x ∷ []) e)))
+    (λ n. let t : eqb b 13 ≡ false = ne_eqb b 13 n in inl (rw t refl))
+    (cases_eq b 13)
+stripped (b ∷ c ∷ bs) = ⊎_elim (λ e. inl (ap (λ x. b ∷ x) e)) (λ e. inr (ap (λ x. b ∷ x) e)) (stripped (c ∷ bs))
+
+-- and a CR is
+without_cr_lem : (xs : List ℕ) → without_cr (xs ++ 13 ∷ []) ≡ xs
+without_cr_lem [] = refl
+without_cr_lem (a ∷ []) = refl
+without_cr_lem (a ∷ b ∷ bs) = ap (λ x. a ∷ x) (without_cr_lem (b ∷ bs))
+
+-- the same in the words of `strip_suffix`
+pub strips : (front : Bor (List ℕ)) (r : Option (Bor (List ℕ)))
+    → MatchOption r ((f : List ℕ) → front.now ≡ f ++ 13 ∷ [] → ⊥) (λ x. front.now ≡ x.now ++ 13 ∷ [])
+    → (unwrap_or r front).now ≡ without_cr front.now
+strips front None h = ⊎_elim (λ e. e) (λ e. absurd (h _ e)) (stripped front.now)
+strips front (Some x) h = sym (ap without_cr h ∙ without_cr_lem x.now)
 
 -- a byte that ends no line is one more byte of the first
 more_lines : (b : ℕ) (bs : List ℕ) → (b ≡ 10 → ⊥) → begins_lf bs ≡ false → lines_of (b ∷ bs) ≡ onto b (lines_of bs)

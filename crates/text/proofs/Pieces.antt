@@ -1,7 +1,32 @@
 -- Bytes put into a buffer, one piece behind another.
-use Rattle.std.proofs.Common.{◌≡◌, ℕ, ◌+◌, List, ◌++◌, length, take, drop, sym, ap, ◌∙◌, append_assoc, arith, length-append}
-use Rattle.std.proofs.lemmas.List.{drop_at, drop-drop, length-drop, length-take-le, take_at}
+use Rattle.std.proofs.Common.{◌≡◌, ℕ, ◌+◌, ◌-◌, ◌<◌, ◌≤◌, List, [], ◌∷◌, ◌++◌, length, take, drop, set, sym, refl, ap, ◌∙◌, append_assoc, add-one, arith, length-append}
+use borrow.Rule.Slice.PartMut.{put_mid}
+use Rattle.std.proofs.lemmas.List.{drop_at, drop-drop, length-drop, length-take-le, set_split, take-append-drop, take_at}
 use Rattle.text.specs.Writing.{Placed}
+
+-- nothing put
+pub nothing : (buf : List ℕ) (at : ℕ) → at ≤ length buf → Placed buf at [] at buf
+nothing buf at l = record { ends = omega arith; fits = l; holds = sym (take-append-drop at buf) }
+
+-- one byte written
+pub one_byte : (buf : List ℕ) (at b : ℕ) → at < length buf → Placed buf at (b ∷ []) (at + 1) (set buf at b)
+one_byte buf at b l = record {
+  ends = refl;
+  fits = omega arith;
+  holds = set_split buf at b l ∙ ap (λ k. take at buf ++ b ∷ drop k buf) (sym (add-one at));
+}
+
+-- a part of the buffer written over
+pub placed : (before bytes part : List ℕ) (at end : ℕ)
+    → end ≡ at + length bytes → end ≤ length before → part ≡ bytes
+    → Placed before at bytes end (put_mid at (end - at) before part)
+placed before bytes part at end e fits same =
+    let back : at + (end - at) ≡ end = omega arith in
+    record {
+      ends = e;
+      fits = fits;
+      holds = (λ i. take at before ++ (same i ++ (drop-drop (end - at) at before ∙ ap (λ k. drop k before) back) i));
+    }
 
 module _ {before mid : List ℕ} {at a : ℕ} (xs : List ℕ) (p : Placed before at xs a mid) where
   front : List ℕ
@@ -39,3 +64,9 @@ module _ {before mid : List ℕ} {at a : ℕ} (xs : List ℕ) (p : Placed before
             ∙ append_assoc (take at before) xs (ys ++ drop b before)
             ∙ ap (λ x. take at before ++ x) (sym (append_assoc xs ys (drop b before)));
       }
+
+-- bytes put at the front of a buffer are its part up to where they end
+pub front_part : {before bytes after : List ℕ} {end : ℕ} → Placed before 0 bytes end after → take (end - 0) after ≡ bytes
+front_part {before} {bytes} {after} {end} p =
+    let e : end - 0 ≡ length bytes = omega (arith, p.ends) in
+    ap (λ k. take k after) e ∙ ap (take (length bytes)) p.holds ∙ take_at bytes (drop end before) (length bytes) refl

@@ -2,7 +2,7 @@
 use Rattle.std.proofs.Common.{◌≡◌, ℕ, ◌+◌, ◌-◌, ◌*◌, ◌^◌, ◌<◌, ◌≤◌, Bool, true, false, cond, not, ◌&&◌, eqb, ltb, List, [], ◌∷◌, length, get_or, drop, Some, None, decimal, Decides, Option, sym, refl, ap, ◌∙◌, ⊎_elim, arith, rules}
 use Rattle.std.specs.Char.{is_ascii_digit}
 use Rattle.std.specs.Option.{option_eq}
-use Rattle.std.proofs.lemmas.Bool.Decides.{Decides-eqb, nat_tests}
+use Rattle.std.proofs.lemmas.Bool.Decides.{Decides-eqb}
 use Rattle.std.specs.Str.{all_ascii_digits, bytes_eq}
 use Rattle.std.proofs.lemmas.Fmt.{first_decimal, decimal_digit, decimal_nonempty, decimal-digits_value, digits_value-decimal, digits_decimal as decimal-digits}
 use Rattle.std.proofs.lemmas.Slice.Eq.{bytes_eq-Decides}
@@ -43,18 +43,23 @@ read bs u d l =
     simp (u, d, small)
 
 module _ (bs : List ℕ) (v i : ℕ) (h : Sofar bs v i) where
-  pub at_no_digit : i < length bs → (48 ≤ get_or bs i 0 → get_or bs i 0 ≤ 57 → ⊥) → None ≡ number_of bs
+  pub at_no_digit : i < length bs → is_ascii_digit (get_or bs i 0) ≡ false → None ≡ number_of bs
   at_no_digit lt n =
-      let f : is_ascii_digit (get_or bs i 0) ≡ false = grind (arith, nat_tests) in
-      no_digits bs (sym h.onward ∙ at_drop_more all_ascii_digits bs i 0 lt ∙ and_left _ (all_ascii_digits (drop (i + 1) bs)) f)
+      no_digits bs (sym h.onward ∙ at_drop_more all_ascii_digits bs i 0 lt ∙ and_left _ (all_ascii_digits (drop (i + 1) bs)) n)
 
-  one_more : i < length bs → value_from (v * 10 + (get_or bs i 0 - 48)) (drop (i + 1) bs) ≡ value_from 0 bs
-  one_more lt = sym (at_drop_more (value_from v) bs i 0 lt) ∙ h.worth
+  one_more : i < length bs → (w : ℕ) → w ≡ v * 10 + (get_or bs i 0 - 48) → value_from w (drop (i + 1) bs) ≡ value_from 0 bs
+  one_more lt w e = ap (λ k. value_from k (drop (i + 1) bs)) e ∙ sym (at_drop_more (value_from v) bs i 0 lt) ∙ h.worth
 
-  pub past_limit : i < length bs → 2 ^ 32 ≤ v * 10 + (get_or bs i 0 - 48) → None ≡ number_of bs
-  past_limit lt l =
-      let w = v * 10 + (get_or bs i 0 - 48) in
-      too_large bs (omega (arith, one_more lt, grows w (drop (i + 1) bs)))
+  pub past_limit : i < length bs → (w : ℕ) → w ≡ v * 10 + (get_or bs i 0 - 48) → 2 ^ 32 ≤ w → None ≡ number_of bs
+  past_limit lt w e l = too_large bs (omega (arith, one_more lt w e, grows w (drop (i + 1) bs)))
+
+  pub next : i < length bs → is_ascii_digit (get_or bs i 0) ≡ true
+      → (w : ℕ) → w ≡ v * 10 + (get_or bs i 0 - 48) → w < 2 ^ 32 → Sofar bs w (i + 1)
+  next lt d w e l = record {
+    worth = one_more lt w e;
+    onward = sym (ap (λ t. t && all_ascii_digits (drop (i + 1) bs)) d) ∙ sym (at_drop_more all_ascii_digits bs i 0 lt) ∙ h.onward;
+    small = l;
+  }
 
   pub at_end : length bs ≤ i → unpadded bs ≡ true → Some v ≡ number_of bs
   at_end le u =

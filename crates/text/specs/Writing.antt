@@ -12,6 +12,11 @@ pub record Unfit (before : List ℕ) (at : ℕ) (bytes : List ℕ) (after : List
   pub short : length before < at + length bytes
   pub kept : after ≡ before
 
+-- the answer is where the bytes end, or none if they do not fit
+abbrev pub Put : List ℕ → ℕ → List ℕ → Option ℕ → List ℕ → Type 0
+Put before at bytes (Some end) after = Placed before at bytes end after
+Put before at bytes None after = Unfit before at bytes after
+
 -- bytes put behind what is written, which then ends where they end; if they do not fit, its end stays too
 abbrev pub Puts : List ℕ → ℕ → List ℕ → Option (Unit {0}) → ℕ → List ℕ → Type 0
 Puts before at bytes (Some done) end after = Placed before at bytes end after

@@ -2,10 +2,13 @@
 ghost use Rattle.std.specs.Prelude.{◌≡◌, ◌+◌, ◌≤◌, true, length, is_ok, vec_len, vec_capacity};
 ghost use Rattle.std.specs.Str.{bytes_eq};
 ghost use Rattle.text.specs.Decimal.{ReadsBack, digits, number_of, unpadded};
-ghost use Rattle.text.specs.Writing.{Appends};
+ghost use Rattle.text.specs.Writing.{Appends, Placed, Put};
 
-use arrayvec::ArrayVec;
+use crate::bytes::put_bytes;
 use std::alloc::AllocError;
+
+// The largest number that is read.
+const LARGEST: u64 = 0xffff_ffff;
 
 // How many digits the largest u64 has.
 const MOST_DIGITS: usize = 20;
@@ -17,12 +20,17 @@ pub fn read_number(bytes: &[u8]) -> Option<u32>
     if !is_unpadded(bytes) {
         return None;
     }
-    let mut value: u32 = 0;
+    let mut value: u64 = 0;
     for byte in bytes {
-        let digit = char::from(*byte).to_digit(10)?;
-        value = value.checked_mul(10)?.checked_add(digit)?;
+        if !byte.is_ascii_digit() {
+            return None;
+        }
+        value = value * 10 + u64::from(*byte - b'0');
+        if value > LARGEST {
+            return None;
+        }
     }
-    Some(value)
+    Some(value as u32)
 }
 
 // Whether there is a byte, and no leading zero.
@@ -40,25 +48,35 @@ pub fn spells(bytes: &[u8], n: u32) -> bool
     read_number(bytes) == Some(n)
 }
 
+// Writes the digits of n into the buffer from `at` on, and answers where they end.
+// Where they do not fit, the buffer stays as it is.
+pub fn put_number(buf: &mut [u8], at: usize, n: u64) -> Option<usize>
+    ensures { Put buf.old at (digits n) result buf.new }
+{
+    let mut scratch = [0; MOST_DIGITS];
+    let count = put_digits(&mut scratch, n);
+    put_bytes(buf, at, &scratch[0..count])
+}
+
 // Appends the digits of n. Without memory for them, the list stays as it is.
 pub fn append_number(out: &mut Vec<u8>, n: u64) -> Result<(), AllocError>
     ensures items { Appends out.old.items (digits n) result out.new.items }
     ensures succeeds { vec_len out.old + length (digits n) ≤ vec_capacity out.old → is_ok result ≡ true }
     ensures capacity { vec_capacity out.old ≤ vec_capacity out.new }
 {
-    out.extend_from_slice(&digits_of(n))
+    let mut scratch = [0; MOST_DIGITS];
+    let count = put_digits(&mut scratch, n);
+    out.extend_from_slice(&scratch[0..count])
 }
 
-// The digits of n: those of its tenth part, unless that is 0, and then its last.
-pub(crate) fn digits_of(n: u64) -> ArrayVec<u8, MOST_DIGITS>
-    ensures { result.items ≡ digits n }
+// Writes the digits of n at the front of the buffer, and answers how many there are: those of its tenth part, unless that
+// is 0, and then its last.
+fn put_digits(buf: &mut [u8], n: u64) -> usize
+    requires { length (digits n) ≤ length buf.old }
+    ensures { Placed buf.old 0 (digits n) result buf.new }
 {
     let tenth = n / 10;
-    let mut all = if tenth > 0 {
-        digits_of(tenth)
-    } else {
-        ArrayVec::new()
-    };
-    all.push(b'0' + (n % 10) as u8);
-    all
+    let end = if tenth > 0 { put_digits(buf, tenth) } else { 0 };
+    buf[end] = b'0' + (n % 10) as u8;
+    end + 1
 }

@@ -3,7 +3,8 @@ ghost use Rattle.std.specs.Prelude.{◌≡◌};
 ghost use Rattle.text.specs.Decimal.{digits};
 ghost use Rattle.text.specs.Writing.{Puts};
 
-use crate::numbers::digits_of;
+use crate::bytes::put_bytes;
+use crate::numbers::put_number;
 
 // A buffer, and where what is written in it ends.
 #[derive(Drop)]
@@ -18,12 +19,7 @@ impl Slate<'_> {
         ensures same { self.new.buf.ghost_name ≡ self.old.buf.ghost_name }
         ensures puts { Puts self.old.buf.now self.old.end bytes.now result self.new.end self.new.buf.now }
     {
-        let end = self.end.checked_add(bytes.len())?;
-        if end > self.buf.len() {
-            return None;
-        }
-        self.buf[self.end..end].copy_from_slice(bytes);
-        self.end = end;
+        self.end = put_bytes(self.buf, self.end, bytes)?;
         Some(())
     }
 
@@ -32,6 +28,7 @@ impl Slate<'_> {
         ensures same { self.new.buf.ghost_name ≡ self.old.buf.ghost_name }
         ensures puts { Puts self.old.buf.now self.old.end (digits n) result self.new.end self.new.buf.now }
     {
-        self.put_bytes(&digits_of(n))
+        self.end = put_number(self.buf, self.end, n)?;
+        Some(())
     }
 }

@@ -4,10 +4,10 @@
 #[cfg(test)]
 mod tests {
     use std::test::Fail;
-    use text::bytes::same;
+    use text::bytes::{put_bytes, same};
     use text::fields::{Malformed, cut_fields};
     use text::lines::{lines, split_line};
-    use text::numbers::{append_number, read_number, spells};
+    use text::numbers::{append_number, put_number, read_number, spells};
     use text::slate::Slate;
 
     #[test]
@@ -104,6 +104,21 @@ mod tests {
     #[test]
     fn numbers_written(rt: HostRuntime) -> Result<(), Fail> {
         let mut buf = *b"........";
+        assert_eq!(rt; put_number(&mut buf, 2, 409), Some(5));
+        assert_eq!(rt; put_bytes(&mut buf, 5, b"\r\n"), Some(7));
+        assert!(rt; same(&buf, b"..409\r\n."));
+        assert_eq!(rt; put_number(&mut buf, 6, 100), None);
+        assert!(rt; same(&buf, b"..409\r\n."));
+        let mut list = Vec::new(rt.alloc());
+        append_number(&mut list, 0)?;
+        append_number(&mut list, 18446744073709551615)?;
+        assert!(rt; same(list.as_slice(), b"018446744073709551615"));
+        Ok(())
+    }
+
+    #[test]
+    fn numbers_on_a_slate(rt: HostRuntime) {
+        let mut buf = *b"........";
         let mut slate = Slate {
             buf: &mut buf,
             end: 2,
@@ -117,11 +132,6 @@ mod tests {
         assert_eq!(rt; slate.put_number(100), None);
         assert_eq!(rt; slate.end, 6);
         assert!(rt; same(&buf, b"..409\r\n."));
-        let mut list = Vec::new(rt.alloc());
-        append_number(&mut list, 0)?;
-        append_number(&mut list, 18446744073709551615)?;
-        assert!(rt; same(list.as_slice(), b"018446744073709551615"));
-        Ok(())
     }
 
     #[test]
