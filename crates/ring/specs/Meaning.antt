@@ -1,5 +1,5 @@
 -- What a ring means.
-use Rattle.std.specs.Prelude.{◌≡◌, ℕ, ◌-◌, ◌/◌, ◌<◌, cond, List, [], length, Ok, Err, Result}
+use Rattle.std.specs.Prelude.{◌≡◌, ℕ, ◌-◌, ◌/◌, ◌<◌, cond, List, [], Ok, Err, Result}
 use Rattle.model.specs.declared.event.Event.{Event}
 use Rattle.model.specs.declared.fault.LinkFault.{LinkFault}
 use Rattle.model.specs.Pile.{Pile}
@@ -12,9 +12,9 @@ use Rattle.ring.specs.Shape.{row, spot}
 
 module _ {C : Type 0} where
   -- On each link wait the events in its slots from its head on, as many as its length says.
-  abbrev pub pile_of : ℕ → List (Event C) → List Lane → Pile C
-  pile_of size slots lanes = record {
-    count = length lanes;
+  abbrev pub pile_of : ℕ → ℕ → List (Event C) → List Lane → Pile C
+  pile_of links size slots lanes = record {
+    count = links;
     waiting = λ k. walk slots (spot size k (row lanes k).head) (row lanes k).len;
     floor = λ k. (row lanes k).floor;
     delay = λ k. 0;
@@ -24,7 +24,7 @@ module _ {C : Type 0} where
   }
 
   abbrev pub meaning_of : Ring C → Pile C
-  meaning_of r = pile_of r.size r.slots.now r.lanes.items
+  meaning_of r = pile_of r.links r.size r.slots.now r.lanes
 
   -- A ring just made of n slots: they are shared out evenly among the links, or there are no links.
   abbrev pub opened : ℕ → ℕ → Pile C
@@ -32,10 +32,10 @@ module _ {C : Type 0} where
 
   -- The lane of the link k is looked up.
   abbrev pub Looked : Ring C → ℕ → Result Lane LinkFault → Type 0
-  Looked r k (Ok lane) = (k < length r.lanes.items) × (lane ≡ row r.lanes.items k)
+  Looked r k (Ok lane) = (k < r.links) × (lane ≡ row r.lanes k)
   Looked r k (Err fault) = AskFails (meaning_of r) k fault
 
   -- The lane of the link k is looked up, to put something there at time t.
   abbrev pub LookedAt : Ring C → ℕ → ℕ → Result Lane LinkFault → Type 0
-  LookedAt r k t (Ok lane) = Timely (meaning_of r) k t × (lane ≡ row r.lanes.items k)
+  LookedAt r k t (Ok lane) = Timely (meaning_of r) k t × (lane ≡ row r.lanes k)
   LookedAt r k t (Err fault) = NullFails (meaning_of r) k t fault

@@ -22,19 +22,19 @@ part_within size links k a l m = omega (arith, mul-add-lt k size a links l m, mu
 
 module _ {C : Type 0} (r : Ring C) where
   -- The slots of a link are there.
-  pub spot_inside : (k : ℕ) → k < length r.lanes.items → (n : ℕ) → n ≤ r.size
-      → spot r.size k (row r.lanes.items k).head n < length r.slots.now
+  pub spot_inside : (k : ℕ) → k < r.links → (n : ℕ) → n ≤ r.size
+      → spot r.size k (row r.lanes k).head n < length r.slots.now
   spot_inside k l n m =
-      let head = (row r.lanes.items k).head in
+      let head = (row r.lanes k).head in
       let a = around_below r.size head n (r.within k l).0 m in
-      let b = part_within r.size (length r.lanes.items) k (around r.size head n) l a in
+      let b = part_within r.size r.links k (around r.size head n) l a in
       let e = r.enough in
       omega arith
 
   -- As many events wait on a link as its lane says.
-  pub length_waiting : (k : ℕ) → k < length r.lanes.items → length ((meaning_of r).waiting k) ≡ (row r.lanes.items k).len
+  pub length_waiting : (k : ℕ) → k < r.links → length ((meaning_of r).waiting k) ≡ (row r.lanes k).len
   length_waiting k l =
-      length_walk r.slots.now (spot r.size k (row r.lanes.items k).head) (row r.lanes.items k).len
+      length_walk r.slots.now (spot r.size k (row r.lanes k).head) (row r.lanes k).len
       (λ j m. spot_inside k l j (omega (arith, (r.within k l).1)))
 
   pub is_sound : Sound (meaning_of r)

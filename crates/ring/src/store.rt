@@ -1,10 +1,8 @@
 //! The store, over slots that the caller lends.
-ghost use Rattle.std.specs.Prelude.{ℕ, ◌*◌, ◌<◌, ◌≤◌, length};
-ghost use Rattle.arrayvec.specs.ArrayVec.{array_vec_len};
+ghost use Rattle.std.specs.Prelude.{◌≡◌, ℕ, ◌*◌, ◌<◌, ◌≤◌, length};
 ghost use Rattle.ring.specs.Shape.{Within, row};
 
 use crate::lane::Lane;
-use arrayvec::ArrayVec;
 use model::event::Event;
 use slots::MOST_LINKS;
 
@@ -14,10 +12,12 @@ pub mod calls;
 #[derive(Drop)]
 pub struct Ring<'a, C> {
     slots: &'a mut [Event<C>],
+    links: usize,
     size: u32,
-    lanes: ArrayVec<Lane, MOST_LINKS>,
-    ghost few: { array_vec_len lanes ≤ 128 },
+    lanes: [Lane; MOST_LINKS],
+    ghost few: { links ≤ 128 },
     ghost wide: { size ≤ 65535 },
-    ghost enough: { array_vec_len lanes * size ≤ length slots.now },
-    ghost within: { (k : ℕ) → k < array_vec_len lanes → Within size (row lanes.items k) },
+    ghost enough: { links * size ≤ length slots.now },
+    ghost rows: { length lanes ≡ 128 },
+    ghost within: { (k : ℕ) → k < links → Within size (row lanes k) },
 }

@@ -1,13 +1,11 @@
 //! The calls of the store.
-ghost use Rattle.std.specs.Prelude.{◌≡◌, ◌<◌, ◌≤◌, length, replicate, slice_set};
-ghost use Rattle.arrayvec.specs.ArrayVec.{array_vec_len};
-ghost use Rattle.ring.specs.Shape.{Within, fresh, row, around, spot};
+ghost use Rattle.std.specs.Prelude.{◌≡◌, ◌<◌, ◌≤◌, length, replicate};
+ghost use Rattle.ring.specs.Shape.{fresh, row, around, spot};
 ghost use Rattle.ring.specs.Meaning.{meaning_of, opened, Looked, LookedAt};
 ghost use Rattle.ring.specs.Soundness.{is_sound};
 
 use super::Ring;
 use crate::lane::Lane;
-use arrayvec::ArrayVec;
 use model::cargo::Cargo;
 use model::event::Event;
 use model::fault::LinkFault;
@@ -29,14 +27,11 @@ fn place(size: u32, head: u32, after: u32) -> u32
     }
 }
 
-// So many lanes on which nothing was put.
-fn fresh_lanes(links: usize) -> ArrayVec<Lane, MOST_LINKS>
-    requires { links ≤ 128 }
-    ensures { result.items ≡ replicate links fresh }
+// Lanes on which nothing was put.
+fn fresh_lanes() -> [Lane; MOST_LINKS]
+    ensures { result ≡ replicate 128 fresh }
 {
-    let mut lanes = ArrayVec::from([Lane::default(); MOST_LINKS]);
-    lanes.truncate(links);
-    lanes
+    [Lane::default(); MOST_LINKS]
 }
 
 impl<'a, C: Cargo> Ring<'a, C> {
@@ -45,23 +40,32 @@ impl<'a, C: Cargo> Ring<'a, C> {
     pub fn new(slots: &'a mut [Event<C>], links: usize) -> Self
         ensures { meaning_of result ≡ opened links (length slots.old) }
     {
+        let lanes = fresh_lanes();
         if !slots::suits(links, slots.len()) {
             return Ring {
                 slots,
+                links: 0,
                 size: 0,
-                lanes: ArrayVec::new(),
+                lanes,
             };
         }
         let size = (slots.len() / links) as u32;
-        let lanes = fresh_lanes(links);
-        Ring { slots, size, lanes }
+        Ring {
+            slots,
+            links,
+            size,
+            lanes,
+        }
     }
 
     // The lane of a link.
     fn lane(&self, link: usize) -> Result<Lane, LinkFault>
         ensures { Looked self.now link result }
     {
-        self.lanes.get(link).copied().ok_or(LinkFault::NoSuchLink)
+        if link >= self.links {
+            return Err(LinkFault::NoSuchLink);
+        }
+        Ok(self.lanes[link])
     }
 
     // The lane of a link on which something may be put at this time.
@@ -78,22 +82,11 @@ impl<'a, C: Cargo> Ring<'a, C> {
         Ok(lane)
     }
 
-    // Gives a link another lane.
-    fn set_lane(&mut self, link: usize, lane: Lane)
-        requires there { link < array_vec_len self.old.lanes }
-        requires within { Within self.old.size lane }
-        ensures slots { self.new.slots.now ≡ self.old.slots.now }
-        ensures size { self.new.size ≡ self.old.size }
-        ensures lanes { self.new.lanes.items ≡ slice_set self.old.lanes.items link lane }
-    {
-        self.lanes[link] = lane;
-    }
-
     // The slot that lies `after` places after the head of a link.
     fn slot(&self, link: usize, after: u32) -> usize
-        requires there { link < array_vec_len self.now.lanes }
+        requires there { link < self.now.links }
         requires within { after < self.now.size }
-        ensures is { result ≡ spot self.now.size link (row self.now.lanes.items link).head after }
+        ensures is { result ≡ spot self.now.size link (row self.now.lanes link).head after }
         ensures inside { result < length self.now.slots.now }
     {
         link * self.size as usize + place(self.size, self.lanes[link].head, after) as usize
@@ -112,19 +105,17 @@ impl<'a, C: Cargo> Links<C> for Ring<'a, C> {
         }
         let at = self.slot(link, lane.len);
         self.slots[at] = Event { time, cargo };
-        let lane = Lane {
+        self.lanes[link] = Lane {
             len: lane.len + 1,
             floor: time,
             ..lane
         };
-        self.set_lane(link, lane);
         Ok(())
     }
 
     fn null(&mut self, link: usize, time: u32) -> Result<(), LinkFault> {
-        let mut lane = self.lane_at(link, time)?;
-        lane.floor = time;
-        self.set_lane(link, lane);
+        self.lane_at(link, time)?;
+        self.lanes[link].floor = time;
         Ok(())
     }
 
@@ -141,12 +132,11 @@ impl<'a, C: Cargo> Links<C> for Ring<'a, C> {
         let event = self.first(link)?.ok_or(LinkFault::NothingWaits)?;
         let lane = self.lanes[link];
         let head = place(self.size, lane.head, 1);
-        let lane = Lane {
+        self.lanes[link] = Lane {
             head,
             len: lane.len - 1,
             ..lane
         };
-        self.set_lane(link, lane);
         Ok(event)
     }
 
