@@ -1,6 +1,5 @@
 -- The kinds of process on a plan: each has its own rule, and stays what it is.
 use Rattle.std.specs.Prelude.{ℕ, Option}
-use Rattle.model.specs.declared.process.Process as Process
 use Rattle.model.specs.declared.sending.Sending.{Sending}
 use Rattle.exit.specs.declared.kind.Kind.{Kind}
 use Rattle.exit.specs.declared.kind.Kind.TheVariants.{Node, Exit}
@@ -15,7 +14,3 @@ kind_lookahead own (Exit e) = exit_lookahead e
 abbrev pub kind_rule : {P C : Type 0} → (P → ℕ → ℕ → C → P × Option (Sending C)) → Kind P → ℕ → ℕ → C → Kind P × Option (Sending C)
 kind_rule own (Node p) port time c = (Node (own p port time c).0, (own p port time c).1)
 kind_rule own (Exit e) port time c = (Exit (exit_rule e port time c).0, (exit_rule e port time c).1)
-
--- What the impl of Process states of a process, over what that of nodes states.
-abbrev pub kind_ghosts : {P C : Type 0} → Process.Ghosts P C → Process.Ghosts (Kind P) C
-kind_ghosts own = record { lookahead = kind_lookahead own.lookahead; rule = kind_rule own.rule }

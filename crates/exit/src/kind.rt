@@ -1,4 +1,7 @@
 //! The kinds of process that a plan has.
+ghost use Rattle.std.specs.Prelude.{◌≡◌, Option};
+ghost use Rattle.model.specs.declared.sending.Sending.{Sending as Sent};
+ghost use Rattle.exit.specs.declared.kind.Kind.{Kind as Both};
 ghost use Rattle.exit.specs.Kinds.{kind_lookahead, kind_rule};
 ghost use Rattle.std.proofs.Common.{rules};
 
@@ -23,14 +26,18 @@ impl<C: Cargo, P: Process<C>> Process<C> for Kind<P> {
 
     ghost constant = { Prim.search rules };
 
-    fn lookahead(&self) -> u32 {
+    fn lookahead(&self) -> u32
+        ensures { result ≡ kind_lookahead P.lookahead self.now }
+    {
         match self {
             Kind::Node(node) => node.lookahead(),
             Kind::Exit(exit) => exit.lookahead(),
         }
     }
 
-    fn handle(&mut self, port: usize, time: u32, cargo: C) -> Option<Sending<C>> {
+    fn handle(&mut self, port: usize, time: u32, cargo: C) -> Option<Sending<C>>
+        ensures { ◌≡◌ {A = Both P × Option (Sent C)} (self.new, result) (kind_rule P.rule self.old port time cargo) }
+    {
         match self {
             Kind::Node(node) => node.handle(port, time, cargo),
             Kind::Exit(exit) => exit.handle(port, time, cargo),

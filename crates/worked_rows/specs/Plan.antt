@@ -1,4 +1,5 @@
 -- The worked plan: two vehicles come together to a signal, with an exit twenty seconds behind it.
+use Rattle.std.specs.declared.clone.Clone as Clone
 use Rattle.std.specs.Prelude.{◌≡◌, ℕ, [], ◌∷◌, Some, None, refl}
 use Rattle.model.specs.declared.opening.Opening.{Opening}
 use Rattle.model.specs.declared.record.Record.{Record}
@@ -6,8 +7,10 @@ use Rattle.model.specs.Shape.{Shape}
 use Rattle.exit.specs.declared.Exit as exit
 use Rattle.exit.specs.declared.kind.Kind.TheVariants.{Node, Exit}
 use Rattle.exit.specs.Exits.{exit_of}
-use Rattle.exit.specs.Kinds.{kind_ghosts}
+use Rattle.exit.specs.contracts.kind.KindProcess.TheImpl as kinds
+use Rattle.road.specs.contracts.signal.Signal as signal_type
 use Rattle.road.specs.contracts.signal.process.SignalProcessVehicle.TheImpl as process
+use Rattle.road.specs.contracts.vehicle.Vehicle as vehicle_type
 use Rattle.road.specs.contracts.vehicle.cargo.VehicleCargo.TheImpl as cargo
 use Rattle.road.specs.Kinds.{RoadProcess}
 use Rattle.road.specs.declared.signal.Signal as signal
@@ -21,9 +24,13 @@ use Rattle.simulation.specs.Simulation.{simulated, events, least_reach, round_fi
 use Rattle.simulation.specs.Prepare.{Limits}
 use Rattle.simulation.specs.Law.{Over, NoneStopped}
 
--- What the impls of cargo and of process state.
+-- Vehicles and signals are copied as they are, which the impl for kinds asks of them and states nothing by.
+abbrev copied : {A : Type 0} → Clone.Ghosts A
+copied = record { is_clone = λ x y. x ≡ y; is_infallible = λ x. Unit {0} }
+
+-- What the impls of cargo and of process state: that of process is the one for kinds, over signals and vehicles.
 abbrev pub road_program : Program Vehicle RoadProcess
-road_program = program_of cargo.ghosts (kind_ghosts process.ghosts)
+road_program = program_of cargo.ghosts (kinds.ghosts vehicle_type.the_row signal_type.the_row cargo.ghosts cargo.dict copied cargo.dict process.ghosts process.dict copied process.dict)
 
 -- Green for the first half of each minute.
 abbrev pub lights : Settings
