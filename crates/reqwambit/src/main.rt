@@ -12,7 +12,8 @@ use model::answer::Passed;
 use model::event::Event;
 use model::links::Links;
 use model::numbered::Numbered;
-use plan_to_log::histories::write_log;
+use model::record::Record;
+use records::log::LogLine;
 use ring::store::Ring;
 use road::kind::RoadKind;
 use road::vehicle::Vehicle;
@@ -50,6 +51,38 @@ fn backwards<L: Links<Vehicle>>(run: &mut Run<Vehicle, RoadKind, L>, times: u32)
     }
 }
 
+// Writes the line of a record that stands at place n of its history.
+fn print_line(rt: &HostRuntime, record: Record, n: usize) -> anyhow::Result<()> {
+    let line = LogLine::new(record, n).context("a record is outside the limits of a line")?;
+    let mut buf = [0; 32];
+    let end = line
+        .write(&mut buf)
+        .map_err(|_| anyhow!("a line is too long"))?;
+    rt.stdout().write_all(&buf[..end])?;
+    Ok(())
+}
+
+// Writes the history of a process, one line a record.
+fn print_history(rt: &HostRuntime, log: &[Record], process: usize) -> anyhow::Result<()> {
+    for (n, record) in log
+        .iter()
+        .filter(|record| record.process == process)
+        .enumerate()
+    {
+        print_line(rt, *record, n)?;
+    }
+    Ok(())
+}
+
+// Writes the whole log, line by line: it asks for no memory, so that a run that ended is told whatever is left.
+fn print_log(rt: &HostRuntime, log: &[Record]) -> anyhow::Result<()> {
+    rt.stdout().write_all(b"process,n,time,link,cargo\r\n")?;
+    for process in 0..worked::PROCESSES {
+        print_history(rt, log, process)?;
+    }
+    Ok(())
+}
+
 // Runs the plan over two stacks of links, the second stepped backwards, and compares the two.
 fn compared<S: Links<Vehicle> + Drop, T: Links<Vehicle> + Drop>(
     rt: &HostRuntime,
@@ -69,8 +102,7 @@ fn compared<S: Links<Vehicle> + Drop, T: Links<Vehicle> + Drop>(
     let mut other = prepared(heap, other_links)?;
     let Passed { passes, quiet } = run.run(MOST_PASSES);
     backwards(&mut other, 20);
-    rt.stdout()
-        .write_all(write_log(heap, run.log(), worked::PROCESSES)?.as_slice())?;
+    print_log(rt, run.log())?;
     let rounds = run.rounds();
     let done = run.done();
     eprintln!(rt; "{passes} passes (quiet: {quiet}), {rounds} rounds, done: {done}")?;
