@@ -1,10 +1,11 @@
 -- The stages of prepare.
-use Rattle.std.specs.Prelude.{◌≡◌, ℕ, ◌<◌, ◌≤◌, Bool, ◌&&◌, List, [], length, Ok, Err, vec_items, vec_capacity, Result, Vec, nat_lt}
+use Rattle.std.specs.Prelude.{◌≡◌, ◌≢◌, ℕ, ◌<◌, ◌≤◌, Bool, ◌&&◌, List, [], length, Ok, Err, vec_items, vec_capacity, Result, Vec, nat_lt}
 use Rattle.std.specs.declared.alloc.Global.{Global}
 use Rattle.model.specs.declared.plan.Plan.{Plan}
 use Rattle.model.specs.declared.record.Record.{Record}
 use Rattle.model.specs.declared.opening.Opening.{Opening}
 use Rattle.model.specs.declared.refusal.Unprepared.{Unprepared}
+use Rattle.model.specs.declared.refusal.Unprepared.TheVariants.{NoMemory}
 use Rattle.model.specs.Lists.{is_none}
 use Rattle.model.specs.Pile.{Pile}
 use Rattle.model.specs.Shape.{Shape, source}
@@ -21,9 +22,12 @@ module _ {C : Type 0} (plan : Shape) (m : Pile C) where
   FitsThere k = (k < m.count) × (k < length plan.links) × Fits plan m k
 
   -- There are as many of these processes and of the links as planned, and each link fits; or why no run is prepared, whatever its opening and its log.
+  -- Memory is no reason, since none is asked for.
   abbrev pub Suits : {P : Type 0} → List P → Result (Unit {0}) Unprepared → Type 0
   Suits ps (Ok done) = (length ps ≡ plan.processes) × (m.count ≡ length plan.links) × AllFit plan m
-  Suits ps (Err why) = (os : List (Opening C)) (size : ℕ) → Prepares (record { plan = plan; processes = ps; opening = os }) m size (Err why) m
+  Suits ps (Err why) =
+      ((os : List (Opening C)) (size : ℕ) → Prepares (record { plan = plan; processes = ps; opening = os }) m size (Err why) m)
+      × (why ≢ NoMemory)
 
   -- The opening events are put, or the first that is not says why; what was put stays.
   abbrev pub Opened : List (Opening C) → Result (Unit {0}) Unprepared → Pile C → Type 0

@@ -51,7 +51,7 @@ fn suits<C: Cargo, P: Process<C>, L: Links<C>>(
             return Err(Unprepared::NotFresh(link));
         }
     }
-    Ok(())
+    Ok(()) // as planned, and fresh
 }
 
 // Whether a link is there and comes from outside.
