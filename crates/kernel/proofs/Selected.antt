@@ -1,7 +1,9 @@
 -- The numbers below n that pass a test: each passes, they rise, and none is left out.
-use Rattle.std.proofs.Common.{◌≡◌, ℕ, zero, suc, ◌<◌, ◌≤◌, Bool, true, false, cond, eqb, List, [], ◌∷◌, ◌++◌, length, get_or, sym, refl, ap, ◌∙◌, subst, ⊎_elim, arith}
-use Rattle.std.proofs.lemmas.List.{append-nil, length_push, get_or_push, get_or_append_left}
+use Rattle.std.proofs.Common.{◌≡◌, ℕ, zero, suc, ◌+◌, ◌<◌, ◌≤◌, Bool, true, false, cond, eqb, List, [], ◌∷◌, ◌++◌, map, length, get_or, vec_items, vec_len, Vec, sym, refl, ap, ◌∙◌, subst, ⊎_elim, arith}
+use Rattle.std.specs.List.{range_with_len}
+use Rattle.std.proofs.lemmas.List.{append-nil, length_push, get_or_push, get_or_append_left, get_or-map, length-map, map_push}
 use Rattle.std.proofs.lemmas.Bool.{cases_lt, cases_eq, eq-eqb, ne_eqb, true≢false}
+use Rattle.std.proofs.lemmas.List.FromFn.{get_or-map-range_with_len, length-map-range_with_len, map-range_with_len_more}
 use Rattle.model.specs.Lists.{numbers_below, place_of}
 use Rattle.kernel.specs.Places.{Below, Rising}
 
@@ -79,3 +81,23 @@ place_is (j ∷ js) (suc a) k r l e =
 -- Two members of a list that rises stand at one place if they are equal.
 pub same_place : (ks : List ℕ) (a b : ℕ) → Rising ks → a < length ks → b < length ks → get_or ks a 0 ≡ get_or ks b 0 → a ≡ b
 same_place ks a b r l h e = sym (place_is ks a (get_or ks b 0) r l e) ∙ place_is ks b (get_or ks b 0) r h refl
+
+module _ {Z : Type 0} (f : ℕ → List ℕ) where
+  -- A row of a table that has f of each number below n.
+  pub row : (vs : Vec (Vec ℕ Z) Z) (n p : ℕ) (v : Vec ℕ Z) → map vec_items (vec_items vs) ≡ map f (range_with_len 0 n) → p < n
+      → p < vec_len vs → v ≡ get_or (vec_items vs) p v → vec_items v ≡ f p
+  row vs n p v table l h is =
+      ap vec_items is ∙ sym (get_or-map vec_items (vec_items vs) p v [] (omega (arith, vs.ok.0))) ∙ ap (λ rows. get_or rows p []) table
+      ∙ get_or-map-range_with_len f 0 n p p [] l (omega arith)
+
+  -- The table has n rows.
+  pub rows : (vs : Vec (Vec ℕ Z) Z) (n : ℕ) → map vec_items (vec_items vs) ≡ map f (range_with_len 0 n) → vec_len vs ≡ n
+  rows vs n table =
+      vs.ok.0 ∙ sym (length-map (vec_items vs) (vec_items {X = ℕ} {Z = Z})) ∙ ap length table ∙ length-map-range_with_len f 0 n
+
+  -- One row more.
+  pub row_more : (vs ws : List (Vec ℕ Z)) (v : Vec ℕ Z) (p : ℕ) → map vec_items vs ≡ map f (range_with_len 0 p) → ws ≡ vs ++ (v ∷ [])
+      → vec_items v ≡ f p → map vec_items ws ≡ map f (range_with_len 0 (p + 1))
+  row_more vs ws v p table grown is =
+      ap (map vec_items) grown ∙ map_push vec_items vs v ∙ ap (λ rows. rows ++ (vec_items v ∷ [])) table
+      ∙ ap (λ x. map f (range_with_len 0 p) ++ (x ∷ [])) is ∙ sym (map-range_with_len_more f 0 p p (omega arith))
