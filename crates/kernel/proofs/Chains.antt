@@ -1,12 +1,16 @@
 -- What chains of iterators give, in the words that the contracts use.
-use Rattle.std.proofs.Common.{◌≡◌, ℕ, zero, suc, Bool, true, cond, ◌&&◌, eqb, List, [], ◌∷◌, map, slice_get, Some, None, Option, refl, sym, ap, ◌∙◌, subst, add-one, arith}
+use Rattle.std.proofs.Common.{◌≡◌, ℕ, zero, suc, Bool, true, false, cond, ◌&&◌, eqb, List, [], ◌∷◌, map, slice_get, Some, None, Option, refl, sym, ap, ◌∙◌, subst, add-one, arith}
 use Rattle.std.specs.Option.{ok_or}
 use Rattle.std.specs.Fn.{CalledAt}
 use Rattle.std.specs.declared.iter.Filter.{Filter}
+use Rattle.std.specs.declared.slice.Iter.{Iter}
+use Rattle.std.specs.Slice.Iter.{iter_rest, iter_steps}
+use Rattle.std.specs.Iterator.{Yields}
 use Rattle.std.specs.Iterator.Adapters.{filter_source, filter_callee, filter_steps}
-use Rattle.std.specs.List.{filter, list_all, range_with_len}
+use Rattle.std.specs.List.{filter, list_all, range_with_len, FoldsTo}
 use Rattle.std.proofs.Math.Bool.{and-true}
 use Rattle.std.proofs.lemmas.Iterator.{YieldsList}
+use Rattle.std.proofs.lemmas.List.{nil_from_length}
 use Rattle.std.proofs.lemmas.Iterator.Consumers.{YieldsList-from_filter, YieldsList-at}
 use Rattle.std.proofs.lemmas.List.Folds.{list_all-append, list_all-map}
 use Rattle.std.proofs.lemmas.List.FromFn.{map-range_with_len_more}
@@ -30,6 +34,41 @@ pub records_of : {S A F : Type 0} {steps : S → Option A → S → Type 0} {v :
 records_of {steps = steps} {v = v} {s = s} g p {rs} given source callee tests =
     subst (YieldsList (filter_steps steps g) v s) (sym (history_is p rs))
     (YieldsList-from_filter g (λ r. eqb r.process p) (YieldsList-at source given) callee tests)
+
+-- A call of `next` on a log that is filtered by a process.
+module _ {F : Type 0} (g : Mut F (Bor (Bor Record) × Unit {0}) Bool) (p : ℕ) (f : F) where
+  -- A call of the test changes nothing, and says whether a record is the process's.
+  abbrev pub TestsProcess : Type 0
+  TestsProcess = (x : Bor Record) (b : Bool) (q : F) → CalledAt g f x b q → (q ≡ f) × (b ≡ eqb x.now.process p)
+
+  -- What is passed over is not the process's.
+  passes : TestsProcess → (xs : List (Bor Record)) (i j : Iter Record) (q e : F) → q ≡ f → Yields iter_steps i xs j
+      → FoldsTo (λ y x z. CalledAt g y x false z) q xs e → (e ≡ f) × (history p (iter_rest i) ≡ history p (iter_rest j))
+  passes k [] i j q e same y c = (sym c ∙ same, ap (λ s. history p (iter_rest s)) y)
+  passes k (x ∷ xs) i j q e same y c =
+      let here = k x false c.0 (subst (λ z. CalledAt g z x false c.0) same c.1) in
+      let rest = passes k xs y.0 j c.0 e here.0 y.2 c.2 in
+      let more = history p (iter_rest y.0) in
+      (rest.0, ap (history p) y.1 ∙ ap (λ b. cond b (x.now ∷ more) more) (sym here.1) ∙ rest.1)
+
+  -- A record that comes is the next of the history.
+  pub next_is : (s t : Filter (Iter Record) F) (r : Option (Bor Record)) (x : Bor Record) → r ≡ Some x → filter_callee s ≡ f
+      → filter_steps iter_steps g s r t → TestsProcess
+      → (filter_callee t ≡ f) × (history p (iter_rest (filter_source s)) ≡ x.now ∷ history p (iter_rest (filter_source t)))
+  next_is s t r x is same steps k =
+      let n = subst (λ o. filter_steps iter_steps g s o t) is steps in
+      let past = passes k n.0 (filter_source s) n.2.0 (filter_callee s) n.1 same n.2.1 n.3 in
+      let here = k x true (filter_callee t) (subst (λ z. CalledAt g z x true (filter_callee t)) past.0 n.4) in
+      let more = history p (iter_rest (filter_source t)) in
+      (here.0, past.1 ∙ ap (history p) n.2.2 ∙ ap (λ b. cond b (x.now ∷ more) more) (sym here.1))
+
+  -- Where none comes, no record of the history is left.
+  pub none_left : (s t : Filter (Iter Record) F) (r : Option (Bor Record)) → r ≡ None → filter_callee s ≡ f
+      → filter_steps iter_steps g s r t → TestsProcess → history p (iter_rest (filter_source s)) ≡ []
+  none_left s t r is same steps k =
+      let n = subst (λ o. filter_steps iter_steps g s o t) is steps in
+      let past = passes k n.0 (filter_source s) n.2.0 (filter_callee s) n.1 same n.2.1 n.3 in
+      past.1 ∙ ap (history p) {x = iter_rest n.2.0} (nil_from_length _ n.2.2.0)
 
 -- The element at a place is the one that `get` gives.
 pub at_is : {A : Type 0} (xs : List A) (n : ℕ) → at xs n ≡ slice_get xs n

@@ -13,12 +13,28 @@ use model::links::Links;
 use model::process::Process;
 use model::record::Record;
 
+// Whether two records are the same.
+fn same_record(a: &Record, b: &Record) -> bool
+    ensures { Decided result (a.now ≡ b.now) }
+{
+    a == b
+}
+
 // Whether a process has the same history in two logs.
 fn same_in_logs(a: &[Record], b: &[Record], process: usize) -> bool
     ensures { Decided result (history process a.now ≡ history process b.now) }
 {
     let of_process = |record: &&Record| record.process == process;
-    a.iter().filter(of_process).eq(b.iter().filter(of_process))
+    let mut others = b.iter().filter(of_process);
+    for record in a.iter().filter(of_process) {
+        let Some(other) = others.next() else {
+            return false;
+        };
+        if !same_record(record, other) {
+            return false;
+        }
+    }
+    others.next().is_none()
 }
 
 // Whether a process has the same history in two runs, over links of any two kinds. Of runs of one plan the law then holds:
