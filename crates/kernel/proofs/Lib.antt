@@ -11,5 +11,4 @@ pub mod Called
 pub mod Breaching
 pub mod Recorded
 pub mod Chains
-pub mod Compared
 pub mod FromOutside
