@@ -27,7 +27,8 @@ impl<C: Copy, P: ProcessKind<C>> Lists<C, P> {
     // The lines from the second on. What the records before a refused one gave stays.
     pub(super) fn take_lines(&mut self, starts: Starts, text: &[u8]) -> Result<(), PlanFault>
         requires { length text.now ≤ 65536 }
-        ensures { ◌≡◌ {A = AllTaken P C} (held self.new, result) (lines_taken P.ProcessKind.processed P.ProcessKind.loaded (rooms self.old) starts 2 (lines_of text.now) (held self.old)) }
+        ensures items { ◌≡◌ {A = AllTaken P C} (held self.new, result) (lines_taken P.ProcessKind.processed P.ProcessKind.loaded (rooms self.old) starts 2 (lines_of text.now) (held self.old)) }
+        ensures room { rooms self.new ≡ rooms self.old }
     {
         for (record, line) in lines(text).zip(2..) {
             self.take_line(starts, line, record)?;

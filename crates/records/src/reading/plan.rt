@@ -3,7 +3,7 @@ ghost use Rattle.std.specs.Prelude.{◌≡◌, ◌≤◌, length, vec_capacity};
 ghost use Rattle.text.specs.Fields.{cut_line};
 ghost use Rattle.text.specs.Lines.{lines_of};
 ghost use Rattle.records.specs.Filling.{held, rooms};
-ghost use Rattle.records.specs.PlanText.{FamilyRead, first_cut, family_taken, own, own_room, with_links, room_for, PlanRead, all_held, all_rooms, in_family, plan_of};
+ghost use Rattle.records.specs.PlanText.{FamilyRead, first_cut, family_taken, own, own_room, with_links, room_for, PlanRead, all_held, all_rooms, plan_of};
 
 use super::families::ProcessKind;
 use super::fields::Fields;
@@ -11,6 +11,7 @@ use super::kinds::{Net, PlannedLink, read_net};
 use super::lists::{FamilyLists, Lists, PlanLists, Starts};
 use super::words::{Family, Word};
 use model::reading::{PlanFault, RecordFault};
+use std::mem::replace;
 use text::lines::split_line;
 
 // The net record, on the first line.
@@ -29,7 +30,8 @@ impl<C: Copy, P: ProcessKind<C>> Lists<C, P> {
     // The records behind the net record of the family.
     fn take_plan(&mut self, net: Net, text: &[u8]) -> Result<Net, PlanFault>
         requires { length text.now ≤ 65536 }
-        ensures { ◌≡◌ {A = FamilyRead P C} (held self.new, result) (family_taken P.ProcessKind.processed P.ProcessKind.loaded (rooms self.old) net (lines_of text.now) (held self.old)) }
+        ensures items { ◌≡◌ {A = FamilyRead P C} (held self.new, result) (family_taken P.ProcessKind.processed P.ProcessKind.loaded (rooms self.old) net (lines_of text.now) (held self.old)) }
+        ensures room { rooms self.new ≡ rooms self.old }
     {
         let starts = Starts {
             processes: self.processes.len(),
@@ -43,87 +45,48 @@ impl<C: Copy, P: ProcessKind<C>> Lists<C, P> {
 }
 
 impl<C: Copy, P: ProcessKind<C>> FamilyLists<C, P> {
-    // These lists and the links, as the records behind the net record leave them.
-    fn filled(
-        self,
-        links: Vec<PlannedLink>,
+    // Adds to these lists and to the links what the records behind the net record give.
+    fn fill(
+        &mut self,
+        links: &mut Vec<PlannedLink>,
         net: Net,
         text: &[u8],
-    ) -> (Self, Vec<PlannedLink>, Result<Net, PlanFault>)
+    ) -> Result<Net, PlanFault>
         requires { length text.now ≤ 65536 }
-        ensures { ◌≡◌ {A = FamilyRead P C} (with_links (own result.0) result.1.items, result.2) (family_taken P.ProcessKind.processed P.ProcessKind.loaded (room_for (own_room self) (vec_capacity links)) net (lines_of text.now) (with_links (own self) links.items)) }
+        ensures items { ◌≡◌ {A = FamilyRead P C} (with_links (own self.new) links.new.items, result) (family_taken P.ProcessKind.processed P.ProcessKind.loaded (room_for (own_room self.old) (vec_capacity links.old)) net (lines_of text.now) (with_links (own self.old) links.old.items)) }
+        ensures room { own_room self.new ≡ own_room self.old }
+        ensures link_room { vec_capacity links.new ≡ vec_capacity links.old }
     {
+        let heap = *links.allocator();
         let mut lists = Lists {
-            processes: self.processes,
-            links,
-            openings: self.openings,
+            processes: replace(&mut self.processes, Vec::new(heap)),
+            links: replace(links, Vec::new(heap)),
+            openings: replace(&mut self.openings, Vec::new(heap)),
         };
         let answer = lists.take_plan(net, text);
-        let Lists {
-            processes,
-            links,
-            openings,
-        } = lists;
-        (
-            FamilyLists {
-                processes,
-                openings,
-            },
-            links,
-            answer,
-        )
+        self.processes = lists.processes;
+        *links = lists.links;
+        self.openings = lists.openings;
+        answer
     }
 }
 
-// Reads a plan's text into the caller's lists, and gives them back with what its net record says. The family that this
-// names decides which are filled. Where the text is refused, what the records before the refused one gave stays in them.
-pub fn read_plan(text: &[u8], lists: PlanLists) -> (PlanLists, Result<Net, PlanFault>)
-    ensures { ◌≡◌ {A = PlanRead} (all_held result.0, result.1) (plan_of (all_rooms lists) text.now (all_held lists)) }
+// Reads a plan's text into the caller's lists, and answers what its net record says. The family that this names decides
+// which are filled. Where the text is refused, what the records before the refused one gave stays in them. Their room
+// stays as it was.
+pub fn read_plan(text: &[u8], lists: &mut PlanLists) -> Result<Net, PlanFault>
+    ensures read { ◌≡◌ {A = PlanRead} (all_held lists.new, result) (plan_of (all_rooms lists.old) text.now (all_held lists.old)) }
+    ensures rooms { all_rooms lists.new ≡ all_rooms lists.old }
 {
     if text.len() > 65_536 {
-        return (lists, Err(PlanFault::TooLong));
+        return Err(PlanFault::TooLong);
     }
     let Some((first, rest)) = split_line(text) else {
-        return (lists, Err(PlanFault::NoProcess));
+        return Err(PlanFault::NoProcess);
     };
-    match read_first(first) {
-        Ok(net) => read_family(net, rest, lists),
-        Err(fault) => (lists, Err(PlanFault::from(fault))),
-    }
-}
-
-// The records behind the net record, into the lists of the family that it names.
-fn read_family(net: Net, text: &[u8], lists: PlanLists) -> (PlanLists, Result<Net, PlanFault>)
-    requires { length text.now ≤ 65536 }
-    ensures { ◌≡◌ {A = PlanRead} (all_held result.0, result.1) (in_family net.family (all_rooms lists) net (lines_of text.now) (all_held lists)) }
-{
-    let PlanLists {
-        roads,
-        switches,
-        links,
-    } = lists;
+    let net = read_first(first)?;
     match net.family {
-        Family::Road => {
-            let (roads, links, answer) = roads.filled(links, net, text);
-            (
-                PlanLists {
-                    roads,
-                    switches,
-                    links,
-                },
-                answer,
-            )
-        }
-        Family::Switch => {
-            let (switches, links, answer) = switches.filled(links, net, text);
-            (
-                PlanLists {
-                    roads,
-                    switches,
-                    links,
-                },
-                answer,
-            )
-        }
+        Family::Road => lists.roads.fill(&mut lists.links, net, rest),
+        Family::Switch => lists.switches.fill(&mut lists.links, net, rest),
     }
 }

@@ -45,4 +45,4 @@ returns g c =
     let i = c.loop-record.invariant in
     let e : lines_left (zip_first c.loop-record.record-iterator) ≡ [] =
     ⊎_elim (λ h. h.1.0) (λ h. absurd (omega (arith, h.1.0, i.few))) c.in-None.ensures.steps in
-    grind (arith, common_steps)
+    record { items = grind (arith, common_steps); room = i.room }
