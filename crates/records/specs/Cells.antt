@@ -44,7 +44,7 @@ abbrev pub unused_next : ℕ → ℕ → Row → Result (Unit {0}) FieldFault
 unused_next zero field r = Ok tt
 unused_next (suc n) field r = and_then (λ e. e) (unused (cell r field)) (λ _. unused_next n (field + 1) r)
 
--- The fields from this one to the ninth are unused.
+-- The fields from this one to the ninth are unused. One below 3 has the bytes of field 3.
 abbrev pub unused_from : ℕ → Row → Result (Unit {0}) FieldFault
 unused_from field r = unused_next (10 - field) field r
 

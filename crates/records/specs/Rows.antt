@@ -32,7 +32,7 @@ kind_of r = record { line = r.line; field = 1; bytes = r.kind }
 abbrev pub number_of : Row → Cell
 number_of r = record { line = r.line; field = 2; bytes = r.number }
 
--- A field from 3 on.
+-- A field from 3 on. Below 3 it has the bytes of field 3.
 abbrev pub cell : Row → ℕ → Cell
 cell r k = record { line = r.line; field = k; bytes = slice_index_or r.rest (k - 3) [] }
 

@@ -82,7 +82,7 @@ impl<'a> Fields<'a> {
         }
     }
 
-    // A field from 3 to 9; empty from 10 on.
+    // A field from 3 to 9; empty from 10 on. Below 3 it has the bytes of field 3.
     pub fn cell(&self, field: u32) -> Cell<'a>
         ensures { result ≡ cell self.now field }
     {
@@ -94,7 +94,7 @@ impl<'a> Fields<'a> {
         }
     }
 
-    // The fields from this one to the ninth are unused.
+    // The fields from this one to the ninth are unused. One below 3 has the bytes of field 3.
     pub fn unused_from(&self, first: u32) -> Result<(), FieldFault>
         ensures { result ≡ unused_from first self.now }
     {
