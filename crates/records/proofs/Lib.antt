@@ -5,3 +5,4 @@ pub mod Spelling
 pub mod Nine
 pub mod PlanLines
 pub mod Faults
+pub mod Leaving

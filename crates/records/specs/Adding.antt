@@ -1,6 +1,6 @@
 -- What one record adds to the lists, and why it may be refused then.
-use Rattle.std.specs.Prelude.{ℕ, ◌+◌, ◌*◌, Bool, cond, ◌&&◌, List, [], ◌∷◌, ◌++◌, length, drop, Some, None, Ok, Err, fold, count_by, Option, Result, ◌==◌, nat_le, nat_lt}
-use Rattle.model.specs.Lists.{is}
+use Rattle.std.specs.Prelude.{ℕ, ◌+◌, ◌*◌, Bool, cond, ◌&&◌, List, [], ◌∷◌, ◌++◌, map, length, drop, Some, None, Ok, Err, fold, Option, Result, ◌==◌, nat_le, nat_lt}
+use Rattle.model.specs.Shape.{leaving}
 use Rattle.model.specs.declared.link.Link as link
 use Rattle.model.specs.declared.opening.Opening.{Opening}
 use Rattle.model.specs.declared.reading.RecordFault.{RecordFault}
@@ -33,7 +33,7 @@ former k os = fold (λ t o. cond (o.link == k) o.time t) 0 os
 -- How many of these links lead from the same process; from outside any number may.
 abbrev pub from_same : List PlannedLink → Option ℕ → ℕ
 from_same links None = 0
-from_same links (Some p) = count_by (λ planned. is p planned.link.from) links
+from_same links (Some p) = length (leaving (map (λ planned. planned.link) links) p)
 
 -- At most 128 links, 8 of them from one process, and 4,096 places in all.
 abbrev pub link_fits : ℕ → List PlannedLink → link.Link → Bool
