@@ -1,5 +1,5 @@
 -- The nine fields of a record, as a slice pattern binds them.
-use Rattle.std.proofs.Common.{◌≡◌, ℕ, cond, List, [], ◌∷◌, map, length, get_or, Ok, Err, Result, sym, refl, ap, ◌∙◌, Bor, eq-eqb, arith}
+use Rattle.std.proofs.Common.{◌≡◌, ℕ, zero, suc, cond, List, [], ◌∷◌, map, length, get_or, Ok, Err, Result, sym, refl, ap, ◌∙◌, Bor, eq-eqb, arith}
 use Rattle.model.specs.declared.reading.RecordFault.{RecordFault}
 use Rattle.model.specs.declared.reading.RecordFault.TheVariants.{NotNineFields}
 use Rattle.text.specs.Fields.{Cut, whole, found}
@@ -7,6 +7,11 @@ use Rattle.records.specs.Rows.{Row, row_of, row_cut}
 
 abbrev none : Bor (List ℕ)
 none = record { ref_ptr = (0, 0); now = [] }
+
+at : (xs : List (Bor (List ℕ))) (k : ℕ) → get_or (map (λ x. x.now) xs) k [] ≡ (get_or xs k none).now
+at [] k = refl
+at (x ∷ xs) zero = refl
+at (x ∷ xs) (suc k) = at xs k
 
 -- Field k, from 0.
 abbrev pub field : List (Bor (List ℕ)) → ℕ → Bor (List ℕ)
