@@ -81,9 +81,7 @@ pub fn read_plan(text: &[u8], lists: &mut PlanLists) -> Result<Net, PlanFault>
     if text.len() > 65_536 {
         return Err(PlanFault::TooLong);
     }
-    let Some((first, rest)) = split_line(text) else {
-        return Err(PlanFault::NoProcess);
-    };
+    let (first, rest) = split_line(text).ok_or(PlanFault::NoProcess)?;
     let net = read_first(first)?;
     match net.family {
         Family::Road => lists.roads.fill(&mut lists.links, net, rest),
