@@ -9,7 +9,6 @@ use kernel::run::comparing::same_history;
 use layers::delay::Delay;
 use layers::quota::Quota;
 use model::answer::Passed;
-use model::event::Event;
 use model::links::Links;
 use model::numbered::Numbered;
 use model::record::Record;
