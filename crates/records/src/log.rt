@@ -7,6 +7,9 @@ use model::record::Record;
 pub mod appending;
 pub mod line;
 
+// The heading of a log, with the end of its line.
+pub const HEADING: &[u8] = b"process,n,time,link,cargo\r\n";
+
 // A record of the log and its place in the history of its process. None outside the limits of a line exists.
 #[derive(Clone, Copy, PartialEq, Eq, Debug)]
 pub struct LogLine {

@@ -12,7 +12,8 @@ use model::answer::Passed;
 use model::links::Links;
 use model::numbered::Numbered;
 use model::record::Record;
-use records::log::LogLine;
+use records::log::line::LONGEST;
+use records::log::{HEADING, LogLine};
 use ring::store::Ring;
 use road::kind::RoadKind;
 use road::vehicle::Vehicle;
@@ -53,7 +54,7 @@ fn backwards<L: Links<Vehicle>>(run: &mut Run<Vehicle, RoadKind, L>, times: u32)
 // Writes the line of a record that stands at place n of its history.
 fn print_line(rt: &HostRuntime, record: Record, n: usize) -> anyhow::Result<()> {
     let line = LogLine::new(record, n).context("a record is outside the limits of a line")?;
-    let mut buf = [0; 32];
+    let mut buf = [0; LONGEST];
     let end = line
         .write(&mut buf)
         .map_err(|_| anyhow!("a line is too long"))?;
@@ -75,7 +76,7 @@ fn print_history(rt: &HostRuntime, log: &[Record], process: usize) -> anyhow::Re
 
 // Writes the whole log, line by line: it asks for no memory, so that a run that ended is told whatever is left.
 fn print_log(rt: &HostRuntime, log: &[Record]) -> anyhow::Result<()> {
-    rt.stdout().write_all(b"process,n,time,link,cargo\r\n")?;
+    rt.stdout().write_all(HEADING)?;
     for process in 0..worked::PROCESSES {
         print_history(rt, log, process)?;
     }

@@ -3,6 +3,7 @@ ghost use Rattle.std.specs.Prelude.{◌≡◌, IfOk};
 ghost use Rattle.text.specs.Writing.{Appends};
 ghost use Rattle.records.specs.LogText.{heading, line_numbers, number_line};
 
+use super::HEADING;
 use model::numbered::Numbered;
 use model::record::Record;
 use std::alloc::{AllocError, Global};
@@ -12,7 +13,7 @@ use text::numbers::append_number;
 pub fn append_heading(out: &mut Vec<u8>) -> Result<(), AllocError>
     ensures { Appends out.old.items heading result out.new.items }
 {
-    out.extend_from_slice(b"process,n,time,link,cargo\r\n")
+    out.extend_from_slice(HEADING)
 }
 
 // Appends the line of a record that stands at place n of its history. Without memory for it, the text stays as it is.

@@ -10,7 +10,7 @@ use model::record::Record;
 use text::slate::Slate;
 
 // No line is longer.
-const LONGEST: usize = 32;
+pub const LONGEST: usize = 32;
 
 // Writes a number and what stands behind it.
 fn put_part(slate: &mut Slate, n: u64, behind: &[u8])
